@@ -1,0 +1,11 @@
+pub mod WalkLemmas
+pub mod GridLemmas
+pub mod Reorder
+pub mod BookLemmas
+pub mod JournalLaw
+pub mod HistoryLemmas
+pub mod SortedJournal
+pub mod OrderLemmas
+pub mod TailLemmas
+pub mod StayLemmas
+pub mod StayFacts

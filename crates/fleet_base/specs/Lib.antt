@@ -1,0 +1,11 @@
+pub mod Terrain
+pub mod TimedWalk
+pub mod Planned
+pub mod History
+pub mod Journal
+pub mod Stays
+pub mod JournalKey
+pub mod Order
+pub mod Traffic
+pub mod Reach
+pub mod Canonical
