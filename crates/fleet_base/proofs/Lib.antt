@@ -9,3 +9,10 @@ pub mod OrderLemmas
 pub mod TailLemmas
 pub mod StayLemmas
 pub mod StayFacts
+pub mod TrafficLemmas
+pub mod ReachLemmas
+pub mod ArrivalLemmas
+pub mod CanonicalLemmas
+pub mod Layers
+pub mod MadeWalks
+pub mod Examples

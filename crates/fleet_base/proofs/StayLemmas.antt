@@ -1,5 +1,5 @@
 -- The stays of a walk so far, as a loop over its times makes them.
-use Rattle.std.proofs.Common.{◌≡◌, ◌≢◌, ℕ, zero, suc, ◌+◌, ◌-◌, ◌<◌, ◌≤◌, inl, inr, List, [], ◌∷◌, ◌++◌, length, Some, None, refl, ap, sym, ◌∙◌, arith}
+use Rattle.std.proofs.Common.{◌≡◌, ◌≢◌, ℕ, ◌+◌, ◌-◌, ◌<◌, ◌≤◌, inl, inr, List, [], ◌∷◌, ◌++◌, length, Some, None, refl, ap, sym, ◌∙◌, arith}
 use Rattle.std.specs.Prelude.{All, AllPairs, Bool, true, false, not, if◌then◌else◌}
 use Rattle.std.proofs.Math.Dec.{eqb}
 use Rattle.std.proofs.lemmas.Bool.Decides.{nat_tests}
@@ -13,7 +13,7 @@ use Rattle.fleet_base.specs.declared.request.Stay.{Stay}
 use Rattle.fleet_base.specs.declared.request.TheConstants.{FOREVER}
 use Rattle.fleet_base.specs.TimedWalk.{TimedWalk, arrival, position}
 use Rattle.fleet_base.specs.Stays.{HoldsTime, IsStay, AreTheStays}
-use Rattle.fleet_base.proofs.WalkLemmas.{nat_cases, bool_cases, position_over, position_still, HasArrived}
+use Rattle.fleet_base.proofs.WalkLemmas.{nat_cases, bool_cases, position_over, position_for_ever, HasArrived}
 
 -- the stays before the time `from`, and the walk in one cell from then on until before `time`
 pub record StaysUntil (w : TimedWalk) (id : RouteId) (stays : List Stay) (cell : Cell) (from time : ℕ) : Type 0 where
@@ -114,13 +114,6 @@ other_cell {w} {cell} {next} {time} last ends e at differ u =
     (stay_more last ends (omega (arith, u.some)) (λ is. differ (cc)) u)
 
 -- The last stay.
--- an agent that stays is in its last cell for ever
-still_there : (w : TimedWalk) (cell : Cell) (t n : ℕ) → w.stay ≡ true → HasArrived w t → position w t ≡ Some cell → position w (t + n) ≡ Some cell
-still_there w cell t zero stays over at = let e : t + 0 ≡ t = omega arith in rw e at
-still_there w cell t (suc n) stays over at =
-    let e : t + suc n ≡ t + n + 1 = omega arith in
-    rw e (position_still w (t + n) stays (omega (arith, over.0)) (omega (arith, over.1)) ∙ still_there w cell t n stays over at)
-
 stays_on : {w : TimedWalk} {id : RouteId} {stays : List Stay} {cell : Cell} {from : ℕ}
     → w.stay ≡ true → HasArrived w (arrival w) → arrival w < FOREVER → StaysUntil w id stays cell from (arrival w + 1)
     → IsStay w id (record { cell = cell; span = record { from = from; to = FOREVER; id = id } })
@@ -132,7 +125,7 @@ stays_on {w} {cell = cell} stays over ends u = record {
     | inr after ↦
         let later : t ≡ arrival w + (t - arrival w) = omega arith in
         let there : position w (arrival w) ≡ Some cell = u.here (arrival w) (omega (arith, u.some)) (omega arith) in
-        rw later (still_there w cell (arrival w) (t - arrival w) stays over there)
+        rw later (position_for_ever w cell (arrival w) (t - arrival w) stays over there)
   ];
   not_before = u.not_before;
   not_after = λ ended. absurd (ended refl);

@@ -108,8 +108,15 @@ Meet-sym w v m = record { time = m.time; met = MeetAt-sym w v m.time m.met }
 abbrev pub HasArrived : TimedWalk → ℕ → Type 0
 HasArrived w t = (w.depart ≤ t) × (w.depart + length w.cells ≤ t + 1)
 
+-- an agent that stays is in its last cell for ever
+pub position_for_ever : (w : TimedWalk) (cell : Cell) (t n : ℕ) → w.stay ≡ true → HasArrived w t → position w t ≡ Some cell → position w (t + n) ≡ Some cell
+position_for_ever w cell t zero stays over at = let e : t + 0 ≡ t = omega arith in rw e at
+position_for_ever w cell t (suc n) stays over at =
+    let e : t + suc n ≡ t + n + 1 = omega arith in
+    rw e (position_still w (t + n) stays (omega (arith, over.0)) (omega (arith, over.1)) ∙ position_for_ever w cell t n stays over at)
+
 -- who is somewhere after its arrival stands still there
-stands_still : (w : TimedWalk) (t : ℕ) (c : Cell) → HasArrived w t → position w (t + 1) ≡ Some c → position w (t + 1) ≡ position w t
+pub stands_still : (w : TimedWalk) (t : ℕ) (c : Cell) → HasArrived w t → position w (t + 1) ≡ Some c → position w (t + 1) ≡ position w t
 stands_still w t c over at = elim (bool_cases w.stay) [
   | inl stays ↦ position_still w t stays over.0 over.1
   | inr gone ↦ let nowhere : position w (t + 1) ≡ None = position_over w (t + 1) gone over.1 in absurd (cc)
