@@ -1,9 +1,8 @@
 -- A shelf in memory: its state, and what each fetch answers.
-use Rattle.std.specs.Prelude.{◌≡◌, ℕ, ◌==◌, nat_lt, Bool, List, length, if◌then◌else◌, Option, Some, None, Result, Ok, Err, Vec}
-use Rattle.std.specs.List.{list_any}
+use Rattle.std.specs.Prelude.{◌≡◌, ℕ, nat_lt, List, length, if◌then◌else◌, Option, Some, None, Result, Ok, Err, Vec}
 use Rattle.fleet_io.specs.declared.shelf.ShelfFault.{ShelfFault}
 use Rattle.fleet_io.specs.declared.shelf.ShelfFault.TheVariants.{Failed, TooLong, Memory}
-use Rattle.fleet_io.specs.Counts.{raised}
+use Rattle.fleet_io.specs.Counts.{raised, is_failing}
 use Rattle.fleet_io.specs.Files.{NamedFile, content_of, failed_after}
 
 -- the files, the numbers of the fetches that fail, the number of the next fetch, the names that failed
@@ -12,10 +11,6 @@ pub record ShelfState : Type 0 where
   pub failing : List ℕ
   pub next : ℕ
   pub failed : List (List ℕ)
-
--- whether a call's number is among those that fail
-abbrev pub is_failing : ℕ → List ℕ → Bool
-is_failing number failing = list_any (λ n. n == number) failing
 
 -- what a file that was looked up gives: it is there, and within the limit
 abbrev pub found : ℕ → Option (List ℕ) → Result (List ℕ) ShelfFault

@@ -1,7 +1,6 @@
 -- A sink in memory: its state, and what each write and each reserve does to it.
 use Rattle.std.specs.Prelude.{ℕ, ◌-◌, ◌++◌, max, ◌==◌, nat_lt, Bool, ◌||◌, not, List, length, if◌then◌else◌}
-use Rattle.fleet_io.specs.Counts.{raised}
-use Rattle.fleet_io.specs.ShelfState.{is_failing}
+use Rattle.fleet_io.specs.Counts.{raised, is_failing}
 
 -- the bytes written, the numbers of the writes that fail, the number of the next write, the spare, the faults
 pub record SinkState : Type 0 where

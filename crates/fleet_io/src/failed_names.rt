@@ -1,4 +1,4 @@
-ghost use Rattle.std.specs.Prelude.{◌≡◌, ℕ, [], map, string_bytes, Err, IfErr};
+ghost use Rattle.std.specs.Prelude.{◌≡◌, ℕ, [], map, string_bytes, Err};
 ghost use Rattle.fleet_io.specs.Files.{failed_after};
 
 use crate::shelf::ShelfFault;

@@ -6,6 +6,7 @@
 #![tactic(auto)]
 
 mod failed_names;
+mod failing_calls;
 mod file_shelf;
 mod mem_shelf;
 mod mem_sink;

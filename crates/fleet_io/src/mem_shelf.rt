@@ -1,11 +1,12 @@
-ghost use Rattle.std.specs.Prelude.{◌≡◌, ◌↔◌, [], map, string_bytes, MatchOption, None, Some};
+ghost use Rattle.std.specs.Prelude.{◌≡◌, [], map, string_bytes, MatchOption, None, Some};
 ghost use Rattle.std.specs.List.{find};
 ghost use Rattle.std.specs.Option.{option_copied};
 ghost use Rattle.std.specs.Str.{bytes_eq};
 ghost use Rattle.fleet_io.specs.Files.{named, content_of};
-ghost use Rattle.fleet_io.specs.ShelfState.{Gives, fetch_of, state_after, is_failing};
+ghost use Rattle.fleet_io.specs.ShelfState.{Gives, fetch_of, state_after};
 
 use crate::failed_names::FailedNames;
+use crate::failing_calls::FailingCalls;
 use crate::shelf::{Shelf, ShelfFault};
 use std::alloc::Global;
 use std::marker::Model;
@@ -18,8 +19,7 @@ use std::marker::Model;
 pub struct MemShelf {
     alloc: Global,
     files: Vec<(String, Vec<u8>)>,
-    failing: Vec<u32>,
-    next: u64,
+    calls: FailingCalls,
     failed: FailedNames,
 }
 
@@ -30,7 +30,7 @@ impl Model for MemShelf {
 
     ghost Value = { ShelfState };
 
-    ghost view = { λ s. record { files = map named s.files.items; failing = s.failing.items; next = s.next; failed = s.failed } };
+    ghost view = { λ s. record { files = map named s.files.items; failing = s.calls.numbers.items; next = s.calls.next; failed = s.failed } };
 }
 
 // The first file of that name.
@@ -57,8 +57,7 @@ impl MemShelf {
         MemShelf {
             alloc,
             files,
-            failing,
-            next: 0,
+            calls: FailingCalls::new(failing),
             failed: FailedNames::new(alloc),
         }
     }
@@ -68,15 +67,6 @@ impl MemShelf {
         ensures { map string_bytes result.now ≡ self.now.failed }
     {
         self.failed.as_slice()
-    }
-
-    // Whether the next fetch is one of those that fail.
-    fn is_failing(&self) -> bool
-        ensures { result ≡ is_failing self.now.next self.now.failing }
-    {
-        self.failing
-            .iter()
-            .any(|number| u64::from(*number) == self.next)
     }
 }
 
@@ -89,9 +79,7 @@ impl Shelf for MemShelf {
         ensures answer { Gives result (fetch_of self.old name.now limit) }
         ensures state { self.new ≡ state_after self.old name.now result }
     {
-        let failing = self.is_failing();
-        self.next = self.next.saturating_add(1);
-        if failing {
+        if self.calls.count() {
             return Err(self.failed.keep(name));
         }
         let Some(bytes) = content_of(&self.files, name) else {

@@ -1,8 +1,8 @@
 ghost use Rattle.std.specs.Prelude.{◌≡◌, [], OnOk, OnErr, Some, is_ok};
 ghost use Rattle.fleet_io.specs.Counts.{HasCause};
-ghost use Rattle.fleet_io.specs.ShelfState.{is_failing};
 ghost use Rattle.fleet_io.specs.SinkState.{is_taken, state_after, with_spare};
 
+use crate::failing_calls::FailingCalls;
 use crate::sink::{Sink, SinkFailed};
 use fleet_base::Memory;
 use std::alloc::Global;
@@ -15,8 +15,7 @@ use std::marker::Model;
 #[derive(Drop)]
 pub struct MemSink {
     bytes: Vec<u8>,
-    failing: Vec<u32>,
-    next: u64,
+    calls: FailingCalls,
     spare: usize,
     faults: u64,
 }
@@ -27,7 +26,7 @@ impl Model for MemSink {
 
     ghost Value = { SinkState };
 
-    ghost view = { λ s. record { bytes = s.bytes.items; failing = s.failing.items; next = s.next; spare = s.spare; faults = s.faults } };
+    ghost view = { λ s. record { bytes = s.bytes.items; failing = s.calls.numbers.items; next = s.calls.next; spare = s.spare; faults = s.faults } };
 
     ghost invariant = { λ s. vec_len s.bytes + s.spare ≤ vec_capacity s.bytes };
 }
@@ -39,8 +38,7 @@ impl MemSink {
     {
         MemSink {
             bytes: Vec::new(alloc),
-            failing,
-            next: 0,
+            calls: FailingCalls::new(failing),
             spare: 0,
             faults: 0,
         }
@@ -69,15 +67,6 @@ impl MemSink {
     {
         self.faults
     }
-
-    // Whether the next write is one of those that fail.
-    fn is_failing(&self) -> bool
-        ensures { result ≡ is_failing self.now.next self.now.failing }
-    {
-        self.failing
-            .iter()
-            .any(|number| u64::from(*number) == self.next)
-    }
 }
 
 impl Sink for MemSink {
@@ -93,9 +82,7 @@ impl Sink for MemSink {
         if piece.is_empty() {
             return Ok(());
         }
-        let failing = self.is_failing();
-        self.next = self.next.saturating_add(1);
-        if failing || self.spare < piece.len() {
+        if self.calls.count() || self.spare < piece.len() {
             self.faults = self.faults.saturating_add(1);
             return Err(SinkFailed);
         }

@@ -1,4 +1,4 @@
-ghost use Rattle.std.specs.Prelude.{◌≡◌, ℕ, length, None, if◌then◌else◌, is_ok, IsOk};
+ghost use Rattle.std.specs.Prelude.{◌≡◌, length, None, if◌then◌else◌, is_ok, IsOk};
 ghost use Rattle.fleet_io.specs.Counts.{HasCause, raised};
 ghost use Rattle.fleet_io.specs.declared.std_sink.Stream.TheVariants.{Output, Error};
 

@@ -1,4 +1,4 @@
-ghost use Rattle.std.specs.Prelude.{◌≡◌, Some, IfSome, IsNone};
+ghost use Rattle.std.specs.Prelude.{◌≡◌, Some, IfSome};
 ghost use Rattle.word_pack.specs.declared.cell.CellForm.{CellForm};
 ghost use Rattle.word_pack.specs.CellWords.{FitsCell, cell_word, IsCellWord};
 
