@@ -44,7 +44,8 @@ fn is_map_word(line: &[u8]) -> bool
 }
 
 fn check_title(line: &[u8]) -> Result<(), MapFault>
-    ensures header { Gives fault_of (λ x. x) result (at 1 (header (codes "type" ∷ codes "octile" ∷ []) (fields_of line.now))) }
+    ensures header { Gives fault_of (λ x. x) result
+        (at 1 (header (codes "type" ∷ codes "octile" ∷ []) (fields_of line.now))) }
     ensures filled { OnOk result (0 < length line.now) }
 {
     if is_title(line) {
@@ -55,7 +56,8 @@ fn check_title(line: &[u8]) -> Result<(), MapFault>
 }
 
 fn check_map_word(line: &[u8]) -> Result<(), MapFault>
-    ensures header { Gives fault_of (λ x. x) result (at 4 (header (codes "map" ∷ []) (fields_of line.now))) }
+    ensures header { Gives fault_of (λ x. x) result
+        (at 4 (header (codes "map" ∷ []) (fields_of line.now))) }
     ensures filled { OnOk result (0 < length line.now) }
 {
     if is_map_word(line) {
@@ -67,7 +69,8 @@ fn check_map_word(line: &[u8]) -> Result<(), MapFault>
 
 // A word, and a size from 1 to the limit.
 fn read_size(line: &[u8], number: u32, word: &[u8], limit: u32) -> Result<u32, MapFault>
-    ensures size { Gives fault_of (λ x. x) result (at number (size_of word.now (λ n. nat_le n limit) (fields_of line.now))) }
+    ensures size { Gives fault_of (λ x. x) result
+        (at number (size_of word.now (λ n. nat_le n limit) (fields_of line.now))) }
     ensures fits { IfOk result (λ n. (1 ≤ n) × (n ≤ limit)) }
     ensures filled { OnOk result (0 < length line.now) }
 {
@@ -86,7 +89,8 @@ fn read_size(line: &[u8], number: u32, word: &[u8], limit: u32) -> Result<u32, M
 }
 
 fn read_height(line: &[u8]) -> Result<u32, MapFault>
-    ensures size { Gives fault_of (λ x. x) result (at 2 (size_of (codes "height") fits_height (fields_of line.now))) }
+    ensures size { Gives fault_of (λ x. x) result
+        (at 2 (size_of (codes "height") fits_height (fields_of line.now))) }
     ensures fits { IfOk result (λ n. (1 ≤ n) × (n ≤ 2048)) }
     ensures filled { OnOk result (0 < length line.now) }
 {
@@ -95,7 +99,8 @@ fn read_height(line: &[u8]) -> Result<u32, MapFault>
 
 fn read_width(line: &[u8], height: u32) -> Result<u32, MapFault>
     requires { 1 ≤ height }
-    ensures size { Gives fault_of (λ x. x) result (at 3 (size_of (codes "width") (fits_width height) (fields_of line.now))) }
+    ensures size { Gives fault_of (λ x. x) result
+        (at 3 (size_of (codes "width") (fits_width height) (fields_of line.now))) }
     ensures fits { IfOk result (λ n. (1 ≤ n) × (n ≤ 2048) × (n * height ≤ 1048576)) }
     ensures filled { OnOk result (0 < length line.now) }
 {
@@ -118,7 +123,8 @@ fn header_lines(text: &[u8]) -> HeaderLines<'_>
     ensures width { result.width.now ≡ line_at (lines_of text.now) 3 }
     ensures mark { result.mark.now ≡ line_at (lines_of text.now) 4 }
     ensures rest { lines_of result.rest.now ≡ drop 4 (lines_of text.now) }
-    ensures parts { length result.title.now + length result.height.now + length result.width.now + length result.mark.now + length result.rest.now ≤ length text.now }
+    ensures parts { length result.title.now + length result.height.now + length result.width.now
+        + length result.mark.now + length result.rest.now ≤ length text.now }
 {
     let (title, rest) = line_or_empty(text);
     let (height, rest) = line_or_empty(rest);
@@ -144,7 +150,8 @@ pub struct Header<'a> {
 /// Reads the first four lines of a map.
 #[tactic(auto, unfolding(crate::specs::MapGrammar::sizes_of))]
 pub fn read_header(text: &[u8]) -> Result<Header<'_>, MapFault>
-    ensures sizes { Gives fault_of (λ h. record { width = h.width; height = h.height }) result (sizes_of (lines_of text.now)) }
+    ensures sizes { Gives fault_of (λ h. record { width = h.width; height = h.height }) result
+        (sizes_of (lines_of text.now)) }
     ensures rest { IfOk result (λ h. lines_of h.rest.now ≡ drop 4 (lines_of text.now)) }
     ensures wide { IfOk result (λ h. (1 ≤ h.width) × (h.width ≤ 2048)) }
     ensures high { IfOk result (λ h. (1 ≤ h.height) × (h.height ≤ 2048)) }

@@ -33,7 +33,8 @@ pub fn read_map(alloc: Global, text: &[u8]) -> Result<Grid, MapFault>
     ensures grammar { Gives fault_of (λ grid. grid) result (map_of (lines_of text.now)) }
 
     // A fault depends on the lines up to its own alone.
-    ensures first_lines { IfErr result (λ e. IfSome (fault_of e) (λ f. IsOfFirstLines f (lines_of text.now))) }
+    ensures first_lines { IfErr result (λ e.
+        IfSome (fault_of e) (λ f. IsOfFirstLines f (lines_of text.now))) }
 {
     let header = read_header(text)?;
     let (cells, rest) = read_rows(alloc, header.width, header.height, header.rest)?;

@@ -28,7 +28,9 @@ fn are_letters(line: &[u8]) -> bool
 
 // What is wrong with a row, if anything.
 fn row_fault(line: &[u8], width: u32) -> Option<MapKind>
-    ensures { MatchOption result (row width line.now ≡ Ok (map is_open_letter line.now)) (λ kind. row width line.now ≡ Err kind) }
+    ensures { MatchOption result
+        (row width line.now ≡ Ok (map is_open_letter line.now))
+        (λ kind. row width line.now ≡ Err kind) }
 {
     if !are_letters(line) {
         Some(MapKind::BadChar)
@@ -60,7 +62,8 @@ pub fn read_rows(
 ) -> Result<(Vec<bool>, &[u8]), MapFault>
     requires area { width * height ≤ 1048576 }
     requires high { height ≤ 2048 }
-    ensures rows { Gives fault_of (λ x. record { cells = x.0.items; after = lines_of x.1.now }) result (rows width 5 height (lines_of text.now)) }
+    ensures rows { Gives fault_of (λ x. record { cells = x.0.items; after = lines_of x.1.now }) result
+        (rows width 5 height (lines_of text.now)) }
     ensures read { IfOk result (λ x. height + length x.1.now ≤ length text.now) }
 {
     let mut cells = Vec::with_capacity(alloc, (width * height) as usize)?;

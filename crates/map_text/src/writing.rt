@@ -12,7 +12,8 @@ const HEADER_ROOM: usize = 39;
 
 // A line of the header: a word and a number.
 fn push_size(text: &mut Vec<u8>, word: &[u8], size: u32) -> Result<(), Memory>
-    ensures { OnOk result (text.new.items ≡ text.old.items ++ ((word.now ++ 32 ∷ decimal size) ++ 10 ∷ [])) }
+    ensures { let line = word.now ++ 32 ∷ decimal size in
+        OnOk result (text.new.items ≡ text.old.items ++ (line ++ 10 ∷ [])) }
 {
     let mut buffer = Buffer::new();
     text.extend_from_slice(word)?;

@@ -1,10 +1,10 @@
 -- What is written is cut and read again: lines, two fields, and decimal numbers.
 use Rattle.std.proofs.Common.{◌≡◌, ℕ, suc, ◌+◌, ◌-◌, ◌*◌, ◌%◌, ◌^◌, ◌<◌, ◌≤◌, Bool, true, false, List, [], ◌∷◌, ◌++◌, length, get_or, map, Some, refl, ap, ◌∙◌, arith}
 use Rattle.std.specs.Prelude.{filter, All, decimal, ◌&&◌, ◌==◌}
-use Rattle.std.specs.List.{slice_split, suffix_len, prefix_len, list_all, AllByRecursion}
+use Rattle.std.specs.List.{slice_split, suffix_len, list_all, AllByRecursion}
 use Rattle.std.proofs.lemmas.Bool.{leb-true}
 use Rattle.std.proofs.lemmas.Bool.Decides.{nat_tests}
-use Rattle.std.proofs.lemmas.List.{reverse-append, take_all, length-append, get_or-append-add}
+use Rattle.std.proofs.lemmas.List.{take_all, length-append, get_or-append-add}
 use Rattle.std.proofs.lemmas.List.Elements.{All-from_recursion, All-get_or}
 use Rattle.std.proofs.lemmas.List.Splits.{slice_split_at, slice_split_none, length-slice_split}
 use Rattle.std.proofs.lemmas.List.Sums.{fold_push, suffix_len_is}

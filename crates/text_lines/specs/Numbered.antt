@@ -12,4 +12,6 @@ pub record Numbered : Type 0 where
 unfoldable pub numbered_from : ℕ → List (List ℕ) → List Numbered
 numbered_from number [] = []
 numbered_from number (line ∷ lines) =
-    if is_filled line then record { line = number; fields = fields_of line } ∷ numbered_from (number + 1) lines else numbered_from (number + 1) lines
+    if is_filled line
+    then record { line = number; fields = fields_of line } ∷ numbered_from (number + 1) lines
+    else numbered_from (number + 1) lines

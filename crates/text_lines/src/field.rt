@@ -22,7 +22,9 @@ fn first_filled(line: &[u8]) -> Option<usize>
 
 /// The first field of a line, and what follows it.
 pub fn next_field(line: &[u8]) -> Option<(&[u8], &[u8])>
-    ensures field { MatchOption result (fields_of line.now ≡ []) (λ x. fields_of line.now ≡ x.0.now ∷ fields_of x.1.now) }
+    ensures field { MatchOption result
+        (fields_of line.now ≡ [])
+        (λ x. fields_of line.now ≡ x.0.now ∷ fields_of x.1.now) }
     ensures shorter { IfSome result (λ x. length x.1.now < length line.now) }
 {
     let start = first_filled(line)?;
@@ -35,7 +37,9 @@ pub fn next_field(line: &[u8]) -> Option<(&[u8], &[u8])>
 
 /// The field of a line that has one and no more.
 pub fn only_field(line: &[u8]) -> Option<&[u8]>
-    ensures field { MatchOption result (length (fields_of line.now) ≢ 1) (λ word. fields_of line.now ≡ word.now ∷ []) }
+    ensures field { MatchOption result
+        (length (fields_of line.now) ≢ 1)
+        (λ word. fields_of line.now ≡ word.now ∷ []) }
     ensures filled { OnSome result (0 < length line.now) }
 {
     let (word, rest) = next_field(line)?;
@@ -47,7 +51,9 @@ pub fn only_field(line: &[u8]) -> Option<&[u8]>
 
 /// The fields of a line that has two and no more.
 pub fn two_fields(line: &[u8]) -> Option<(&[u8], &[u8])>
-    ensures fields { MatchOption result (length (fields_of line.now) ≢ 2) (λ x. fields_of line.now ≡ x.0.now ∷ x.1.now ∷ []) }
+    ensures fields { MatchOption result
+        (length (fields_of line.now) ≢ 2)
+        (λ x. fields_of line.now ≡ x.0.now ∷ x.1.now ∷ []) }
     ensures filled { OnSome result (0 < length line.now) }
 {
     let (first, rest) = next_field(line)?;

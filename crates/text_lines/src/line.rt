@@ -36,7 +36,9 @@ fn first_line_feed(text: &[u8]) -> Option<usize>
 /// The first line of a text, without the blanks and carriage returns at its end, and the text
 /// after it.
 pub fn next_line(text: &[u8]) -> Option<(&[u8], &[u8])>
-    ensures line { MatchOption result (lines_of text.now ≡ []) (λ x. lines_of text.now ≡ x.0.now ∷ lines_of x.1.now) }
+    ensures line { MatchOption result
+        (lines_of text.now ≡ [])
+        (λ x. lines_of text.now ≡ x.0.now ∷ lines_of x.1.now) }
     ensures shorter { IfSome result (λ x. length x.1.now < length text.now) }
     ensures parts { IfSome result (λ x. length x.0.now + length x.1.now ≤ length text.now) }
 {
@@ -61,7 +63,11 @@ pub struct FilledLine<'a> {
 /// The next line that isn't empty; `before` is the number of the last line that was read, or 0.
 pub fn next_filled_line(before: u32, text: &[u8]) -> Option<FilledLine<'_>>
     requires { before + length text.now < 2 ^ 32 }
-    ensures line { MatchOption result (numbered_from (before + 1) (lines_of text.now) ≡ []) (λ x. numbered_from (before + 1) (lines_of text.now) ≡ record { line = x.number; fields = fields_of x.line.now } ∷ numbered_from (x.number + 1) (lines_of x.rest.now)) }
+    ensures line { MatchOption result
+        (numbered_from (before + 1) (lines_of text.now) ≡ [])
+        (λ x. numbered_from (before + 1) (lines_of text.now)
+        ≡ record { line = x.number; fields = fields_of x.line.now }
+        ∷ numbered_from (x.number + 1) (lines_of x.rest.now)) }
     ensures shorter { IfSome result (λ x. length x.rest.now < length text.now) }
     ensures room { IfSome result (λ x. x.number + length x.rest.now ≤ before + length text.now) }
 {

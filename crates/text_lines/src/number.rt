@@ -20,7 +20,8 @@ fn are_digits(field: &[u8]) -> bool
 // The value after one digit more, unless it passes the limit.
 fn with_digit(value: u64, byte: u8, limit: u64) -> Option<u64>
     requires { 48 ≤ byte }
-    ensures { result ≡ (if nat_le (10 * value + (byte - 48)) limit then Some (10 * value + (byte - 48)) else None) }
+    ensures { let next = 10 * value + (byte - 48) in
+        result ≡ (if nat_le next limit then Some next else None) }
 {
     let digit = u64::from(byte - b'0');
     if value > (u64::MAX - digit) / 10 {
@@ -33,7 +34,8 @@ fn with_digit(value: u64, byte: u8, limit: u64) -> Option<u64>
 // The value of these digits, unless it passes the limit.
 fn value_up_to(digits: &[u8], limit: u64) -> Option<u64>
     requires { list_all is_digit digits.now ≡ true }
-    ensures { result ≡ (if nat_le (value_of digits.now) limit then Some (value_of digits.now) else None) }
+    ensures { let value = value_of digits.now in
+        result ≡ (if nat_le value limit then Some value else None) }
 {
     let mut value = 0;
     for byte in digits {
