@@ -3,3 +3,7 @@ pub mod SortingView
 pub mod Options
 pub mod Words
 pub mod Offered
+pub mod Texts
+pub mod Stopped
+pub mod Asked
+pub mod Ended

@@ -1,5 +1,5 @@
 -- The command that the words of a command line are.
-use Rattle.std.specs.Prelude.{ℕ, ◌*◌, nat_le, if◌then◌else◌, List, [], ◌∷◌, codes, Option, Some, None}
+use Rattle.std.specs.Prelude.{◌*◌, nat_le, if◌then◌else◌, List, [], ◌∷◌, codes, Option, Some, None}
 use Rattle.std.specs.Str.{bytes_eq}
 use Rattle.fleet_run.specs.declared.command.Command.{Command}
 use Rattle.fleet_run.specs.declared.command.Command.TheVariants.{One, Run, Orders, Gen, Check, Long, Turns}

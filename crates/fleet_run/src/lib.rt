@@ -2,9 +2,19 @@
 #![tactic(auto)]
 
 mod command;
+mod load;
+mod one;
 mod options;
+mod outcome;
+mod report;
+mod search;
 mod sorting;
+mod stop;
+mod text;
+mod top;
 mod words;
 
 pub use command::Command;
+pub use outcome::Outcome;
+pub use top::fleet;
 pub use words::read_words;
