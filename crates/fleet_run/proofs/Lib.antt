@@ -1,2 +1,4 @@
 pub mod OptionLemmas
 pub mod SortingLemmas
+pub mod OneLemmas
+pub mod Complete

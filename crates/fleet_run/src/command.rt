@@ -55,15 +55,3 @@ pub enum Command<N> {
         horizon: u32,
     },
 }
-
-impl<N> Command<N> {
-    ghost use Rattle.std.specs.Prelude.{◌≡◌};
-    ghost use Rattle.fleet_run.specs.Offered.{is_offered};
-
-    // Whether the program does this command already.
-    pub(crate) fn is_offered(&self) -> bool
-        ensures { result ≡ is_offered self.now }
-    {
-        matches!(self, Command::One { .. })
-    }
-}
