@@ -2,3 +2,4 @@ pub mod OptionLemmas
 pub mod SortingLemmas
 pub mod OneLemmas
 pub mod Complete
+pub mod FloodLemmas

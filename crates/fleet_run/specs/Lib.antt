@@ -7,3 +7,4 @@ pub mod Texts
 pub mod Stopped
 pub mod Asked
 pub mod Ended
+pub mod FirstTimes

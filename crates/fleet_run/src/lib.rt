@@ -2,6 +2,7 @@
 #![tactic(auto)]
 
 mod command;
+mod flood;
 mod load;
 mod one;
 mod options;
