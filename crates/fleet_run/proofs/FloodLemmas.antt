@@ -2,14 +2,14 @@
 use Rattle.std.proofs.Common.{◌≡◌, ◌≢◌, ℕ, zero, suc, ◌+◌, ◌<◌, ◌≤◌, ◌⊎◌, inl, inr, List, [], ◌∷◌, ◌++◌, length, Some, None, refl, sym, ap, subst, ◌∙◌, arith, replicate, get_or, get_or-set_same, get_or-set_other, slice_set}
 use Rattle.std.specs.Prelude.{slice_get}
 use Rattle.std.proofs.Math.ListN.{length-set}
-use Rattle.std.proofs.lemmas.List.{get_or_past, get_or-replicate, length-replicate, length_push}
+use Rattle.std.proofs.lemmas.List.{get_or_default, get_or_past, get_or-replicate, length-replicate, length_push}
 use Rattle.std.proofs.lemmas.Bool.{cases_eq}
 use Rattle.fleet_base.specs.declared.grid.Cell.{Cell}
 use Rattle.fleet_base.specs.declared.grid.Side.{Side}
 use Rattle.fleet_base.specs.declared.grid.Side.TheVariants.{Up, Left, Right, Down}
 use Rattle.fleet_base.specs.Terrain.{Terrain, IsOpen, IsBeside}
 use Rattle.fleet_base.specs.Traffic.{traffic_of}
-use Rattle.fleet_base.specs.Reach.{IsClearStep, Reached, begin, step}
+use Rattle.fleet_base.specs.Reach.{IsClearStep, begin, step}
 use Rattle.fleet_base.specs.TimedWalk.{IsStep}
 use Rattle.std.proofs.lemmas.Option.{slice_get_past, slice_get_within}
 use Rattle.fleet_base.proofs.WalkLemmas.{nat_cases}
@@ -28,6 +28,10 @@ time_inside times c reached = elim (nat_cases c.0 (length times)) [
   | inl below ↦ below
   | inr past ↦ let none : time_of times c ≡ UNREACHED = get_or_past times c.0 UNREACHED past in absurd (omega arith)
 ]
+
+-- what is read at the place of a cell is its time
+pub time_read : (times : List ℕ) (c : Cell) (x : ℕ) → c.0 < length times → x ≡ get_or times c.0 x → time_of times c ≡ x
+time_read times c x inside is = get_or_default times c.0 UNREACHED x inside ∙ sym is
 
 -- the cell at a place of the queue
 pub found_at : (cells : List Cell) (k : ℕ) (d : Cell) → k < length cells → slice_get cells k ≡ Some (get_or cells k d)
@@ -99,6 +103,7 @@ module _ (g : Terrain) (s : Cell) (inside : s.0 < length g.cells) where
           subst (λ (x : Cell). time_of (slice_set unreached_times s.0 0) x ≡ 0) e
           (get_or-set_same unreached_times s.0 0 UNREACHED (omega (arith, length-replicate (length g.cells) UNREACHED)))
       first (suc k) d is = absurd (cc)
+
       past : (k : ℕ) (d : Cell) → 1 ≤ k → slice_get (s ∷ []) k ≡ Some d → ⊥
       past zero d since is = omega arith
       past (suc k) d since is = cc

@@ -3,3 +3,4 @@ pub mod SortingLemmas
 pub mod OneLemmas
 pub mod Complete
 pub mod FloodLemmas
+pub mod WayLemmas

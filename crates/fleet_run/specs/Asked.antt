@@ -1,9 +1,11 @@
 -- What the words of `one` ask for, and what the files and the search answer.
-use Rattle.std.specs.Prelude.{◌≡◌, ℕ, ◌<◌, ◌⊎◌, List, [], false, Option, Some, None, Result, Ok, Err}
+use Rattle.std.specs.Prelude.{◌≡◌, ℕ, ◌<◌, ◌⊎◌, List, [], false, Option, Some, None, Ok, Err}
 use Rattle.fleet_base.specs.declared.request.Request.{Request}
 use Rattle.fleet_base.specs.Terrain.{Terrain, cell_at}
 use Rattle.fleet_base.specs.TimedWalk.{TimedWalk}
 use Rattle.fleet_base.specs.Planned.{IsLeast, NoneFree}
+use Rattle.fleet_base.specs.Traffic.{traffic_of}
+use Rattle.fleet_base.specs.Canonical.{IsCanonical}
 use Rattle.fleet_io.specs.Files.{NamedFile, IsFetched, IsTooLong}
 use Rattle.text_lines.specs.Text.{lines_of}
 use Rattle.map_text.specs.declared.fault.MapKind.{MapKind}
@@ -11,6 +13,7 @@ use Rattle.map_text.specs.declared.fault.MapKind.TheVariants as kinds
 use Rattle.map_text.specs.declared.fault.MapFault.TheVariants.{At}
 use Rattle.map_text.specs.MapGrammar.{map_of}
 use Rattle.fleet_run.specs.declared.command.Command.TheVariants.{One}
+use Rattle.fleet_run.specs.declared.flood.TheConstants.{HORIZON}
 use Rattle.fleet_run.specs.Sorting.{Word}
 use Rattle.fleet_run.specs.Offered.{offered_of}
 use Rattle.fleet_run.specs.Texts.{answer_text}
@@ -55,10 +58,11 @@ request_of g from to = record { start = cell_at g from.0 from.1; goal = cell_at 
 abbrev pub asked_request : Terrain → Asked → Request
 asked_request g a = request_of g (a.from_x, a.from_y) (a.to_x, a.to_y)
 
--- in an empty book: a walk of the request that arrives as early as any does, or none where there is none
+-- In an empty book: the canonical walk, which is a walk of the request that arrives as early as any does;
+-- or none where there is no walk.
 abbrev pub IsAnswer : Terrain → Request → Option TimedWalk → Type 0
-IsAnswer g q None = NoneFree g 8000 q []
-IsAnswer g q (Some w) = IsLeast g 8000 q [] w
+IsAnswer g q None = NoneFree g HORIZON q []
+IsAnswer g q (Some w) = IsLeast g HORIZON q [] w × IsCanonical g HORIZON (traffic_of []) q w
 
 -- the text is that of an answer
 pub record IsText (g : Terrain) (q : Request) (text : List ℕ) : Type 0 where

@@ -1,5 +1,5 @@
 -- The first time at which each cell is reached, in an empty book.
-use Rattle.std.specs.Prelude.{◌≡◌, ℕ, ◌+◌, ◌<◌, ◌≤◌, List, [], ◌∷◌, get_or, length, Some, slice_get}
+use Rattle.std.specs.Prelude.{◌≡◌, ℕ, ◌+◌, ◌<◌, ◌≤◌, List, [], ◌∷◌, get_or, length, Option, Some, None, slice_get}
 use Rattle.fleet_base.specs.declared.grid.Cell.{Cell}
 use Rattle.fleet_base.specs.declared.grid.Side.{Side}
 use Rattle.fleet_base.specs.Terrain.{Terrain, IsOpen, IsBeside}
@@ -68,7 +68,17 @@ pub record IsFirstReached (g : Terrain) (times : List ℕ) (n c : Cell) (t : ℕ
   pub reached : time_of times n ≤ t
   pub first : (other : Side) (m : Cell) → rank_of other < rank_of side → IsBeside g other c m → t < time_of times m
 
--- from c at t to the first cell of the list, and so on: each is followed by one that it is the first reached before
-abbrev pub IsTrail : Terrain → List ℕ → Cell → ℕ → List Cell → Type 0
-IsTrail g times c t [] = Unit {0}
-IsTrail g times c t (d ∷ ds) = IsFirstReached g times c d t × IsTrail g times d (t + 1) ds
+-- No cell beside c on that side is reached by the time t; or n is there, and is.
+abbrev pub IsReachedOn : Terrain → List ℕ → Cell → ℕ → Side → Option Cell → Type 0
+IsReachedOn g times c t side None = (n : Cell) → IsBeside g side c n → t < time_of times n
+IsReachedOn g times c t side (Some n) = IsBeside g side c n × (time_of times n ≤ t)
+
+-- From c at t along the list to the goal: each cell is the first reached one before the next, which is reached one step later.
+abbrev pub IsTrail : Terrain → List ℕ → Cell → Cell → ℕ → List Cell → Type 0
+IsTrail g times goal c t [] = c ≡ goal
+IsTrail g times goal c t (d ∷ ds) = IsFirstReached g times c d t × (time_of times d ≡ t + 1) × IsTrail g times goal d (t + 1) ds
+
+-- the list begins with c, and goes on from there
+abbrev pub IsWay : Terrain → List ℕ → Cell → Cell → ℕ → List Cell → Type 0
+IsWay g times goal c t [] = ⊥
+IsWay g times goal c t (d ∷ ds) = (d ≡ c) × IsTrail g times goal c t ds

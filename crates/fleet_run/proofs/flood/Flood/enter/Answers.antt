@@ -25,7 +25,7 @@ returns-in_ok-push-clause-goes_on c =
       end = refl;
       keeps = record {
         reached = time_kept c.args.grid.now f.start f.time f.head f.end f.times.items f.queue.items c.args.cell c.in-Some.next c.args.side c.requires.flood c.requires.more c.requires.reached
-        c.in-Some.ensures.beside (c.if-is_open.ensures.0 refl) (unreached f.times.items c.in-Some.next c.index.result.now c.index.ensures c.if-index.true) c.in-Some.ensures.inside;
+            c.in-Some.ensures.beside (c.if-is_open.ensures.0 refl) (unreached f.times.items c.in-Some.next c.index.result.now c.index.ensures c.if-index.true) c.in-Some.ensures.inside;
         queued = λ k d is. rw c.in_ok-push.ensures.items (queue_kept f.queue.items c.in-Some.next d k is);
       };
     }
