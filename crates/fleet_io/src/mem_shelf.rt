@@ -1,4 +1,4 @@
-ghost use Rattle.std.specs.Prelude.{◌≡◌, [], map, string_bytes, MatchOption, None, Some};
+ghost use Rattle.std.specs.Prelude.{◌≡◌, [], map, string_bytes, Some};
 ghost use Rattle.std.specs.List.{find};
 ghost use Rattle.std.specs.Option.{option_copied};
 ghost use Rattle.std.specs.Str.{bytes_eq};
@@ -30,7 +30,12 @@ impl Model for MemShelf {
 
     ghost Value = { ShelfState };
 
-    ghost view = { λ s. record { files = map named s.files.items; failing = s.calls.numbers.items; next = s.calls.next; failed = s.failed } };
+    ghost view = { λ s. record {
+      files = map named s.files.items;
+      failing = s.calls.numbers.items;
+      next = s.calls.next;
+      failed = s.failed;
+    } };
 }
 
 // The first file of that name.
@@ -43,7 +48,7 @@ fn first_named<'a>(files: &'a [(String, Vec<u8>)], name: &str) -> Option<&'a (St
 // What that file holds.
 #[tactic(auto, using(crate::proofs::FileLemmas::content_of_named))]
 fn content_of<'a>(files: &'a [(String, Vec<u8>)], name: &str) -> Option<&'a [u8]>
-    ensures { MatchOption result (content_of (map named files.now) name.now ≡ None) (λ bytes. content_of (map named files.now) name.now ≡ Some bytes.now) }
+    ensures { option_copied result ≡ content_of (map named files.now) name.now }
 {
     let file = first_named(files, name)?;
     Some(file.1.as_slice())
@@ -52,7 +57,12 @@ fn content_of<'a>(files: &'a [(String, Vec<u8>)], name: &str) -> Option<&'a [u8]
 impl MemShelf {
     /// A shelf of these files, of which nothing was fetched yet.
     pub fn new(alloc: Global, files: Vec<(String, Vec<u8>)>, failing: Vec<u32>) -> MemShelf
-        ensures { result ≡ record { files = map named files.items; failing = failing.items; next = 0; failed = [] } }
+        ensures { result ≡ record {
+          files = map named files.items;
+          failing = failing.items;
+          next = 0;
+          failed = [];
+        } }
     {
         MemShelf {
             alloc,

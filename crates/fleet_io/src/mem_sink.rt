@@ -26,7 +26,13 @@ impl Model for MemSink {
 
     ghost Value = { SinkState };
 
-    ghost view = { λ s. record { bytes = s.bytes.items; failing = s.calls.numbers.items; next = s.calls.next; spare = s.spare; faults = s.faults } };
+    ghost view = { λ s. record {
+      bytes = s.bytes.items;
+      failing = s.calls.numbers.items;
+      next = s.calls.next;
+      spare = s.spare;
+      faults = s.faults;
+    } };
 
     ghost invariant = { λ s. vec_len s.bytes + s.spare ≤ vec_capacity s.bytes };
 }

@@ -68,7 +68,8 @@ impl Sink for StdSink {
     ghost faults = { λ s. s.faults };
 
     fn write(&mut self, piece: &[u8]) -> Result<(), SinkFailed>
-        ensures state { self.new ≡ (if is_ok result then self.old else record self.old { faults = raised self.old.faults }) }
+        ensures state { self.new ≡ (if is_ok result then self.old
+            else record self.old { faults = raised self.old.faults }) }
         ensures cause { HasCause self.old.faults self.new.faults result }
         ensures empty { length piece.now ≡ 0 → IsOk result }
     {
