@@ -4,8 +4,9 @@ use Rattle.std.proofs.lemmas.List.{length-append}
 use Rattle.std.proofs.lemmas.Option.{same_Some}
 use Rattle.fleet_base.specs.Terrain.{Terrain}
 use Rattle.fleet_io.specs.Files.{NamedFile, content_of}
-use Rattle.text_lines.specs.Text.{lines_of}
-use Rattle.map_text.specs.declared.fault.MapFault.{MapFault}
+use Rattle.text_lines.specs.Lines.{lines_of}
+use Rattle.text_lines.specs.Faults.{Fault}
+use Rattle.map_text.specs.declared.fault.MapKind.{MapKind}
 use Rattle.map_text.specs.MapGrammar.{map_of}
 use Rattle.fleet_run.specs.declared.command.Command.{Command}
 use Rattle.fleet_run.specs.declared.command.Command.TheVariants.{One}
@@ -40,7 +41,7 @@ same_one a b e =
 longer : (xs : List Word) (x : Word) → xs ≡ xs ++ x ∷ [] → ⊥
 longer xs x e = omega (arith, ap length e, length-append xs (x ∷ []))
 
-abbrev read_as : Terrain → Result Terrain MapFault
+abbrev read_as : Terrain → Result Terrain (Fault MapKind)
 read_as g = Ok g
 
 same_grid : (g h : Terrain) → read_as g ≡ read_as h → g ≡ h
@@ -67,7 +68,7 @@ module _ (words : List Word) (files : List NamedFile) (good : IsGood words files
       let r : map_of (lines_of good.bytes) ≡ map_of (lines_of bad.0) = ap (λ (x : List ℕ). map_of (lines_of x)) b in
       absurd (clash (sym good.read ∙ r ∙ bad.2))
     where
-      clash : {g : Terrain} {e : MapFault} → read_as g ≡ Err e → ⊥
+      clash : {g : Terrain} {e : Fault MapKind} → read_as g ≡ Err e → ⊥
       clash h = cc
   only_memory stops.OutsideMap (a, asked, g, read, outside, s) same =
       let b = same_bytes a read.bytes asked read.fetched.1 in

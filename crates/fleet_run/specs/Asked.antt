@@ -7,10 +7,9 @@ use Rattle.fleet_base.specs.Planned.{IsLeast, NoneFree}
 use Rattle.fleet_base.specs.Traffic.{traffic_of}
 use Rattle.fleet_base.specs.Canonical.{IsCanonical}
 use Rattle.fleet_io.specs.Files.{NamedFile, IsFetched, IsTooLong}
-use Rattle.text_lines.specs.Text.{lines_of}
+use Rattle.text_lines.specs.Lines.{lines_of}
 use Rattle.map_text.specs.declared.fault.MapKind.{MapKind}
 use Rattle.map_text.specs.declared.fault.MapKind.TheVariants as kinds
-use Rattle.map_text.specs.declared.fault.MapFault.TheVariants.{At}
 use Rattle.map_text.specs.MapGrammar.{map_of}
 use Rattle.fleet_run.specs.declared.command.Command.TheVariants.{One}
 use Rattle.fleet_run.specs.declared.flood.TheConstants.{HORIZON}
@@ -32,7 +31,7 @@ pub record IsMapRead (files : Option (List NamedFile)) (name : Word) (g : Terrai
 abbrev pub IsMapRefused : Option (List NamedFile) → Word → ℕ → MapKind → Type 0
 IsMapRefused files name line kind =
     (IsTooLong files name map_limit × (line ≡ 0) × (kind ≡ kinds.TooLarge))
-    ⊎ ((bytes : List ℕ) × IsFetched files name map_limit bytes × (map_of (lines_of bytes) ≡ Err (At line kind)))
+    ⊎ ((bytes : List ℕ) × IsFetched files name map_limit bytes × (map_of (lines_of bytes) ≡ Err (record { line = line; kind = kind })))
 
 -- a map and two places of it
 pub record Asked : Type 0 where

@@ -1,10 +1,10 @@
 -- What a call of `fleet` leaves, by its outcome.
 use Rattle.std.specs.Prelude.{◌≡◌, ℕ, ◌≤◌, ◌⊎◌, ◌++◌, List, [], ◌∷◌, codes, Option, Some, None, Result, Ok, Err, Vec, length}
 use Rattle.fleet_base.specs.Terrain.{Terrain}
-use Rattle.fleet_io.specs.Causes.{Rose}
+use Rattle.fleet_io.specs.Counts.{raised}
 use Rattle.fleet_io.specs.Files.{NamedFile, content_of}
-use Rattle.fleet_io.specs.Written.{Adds, AddsFront}
-use Rattle.text_lines.specs.Text.{lines_of}
+use Rattle.fleet_io.specs.Written.{Writes, WritesFront}
+use Rattle.text_lines.specs.Lines.{lines_of}
 use Rattle.map_text.specs.MapGrammar.{map_of}
 use Rattle.fleet_run.specs.declared.outcome.Outcome.{Outcome}
 use Rattle.fleet_run.specs.declared.outcome.Outcome.TheVariants as outcomes
@@ -24,9 +24,13 @@ pub record World : Type 0 where
   pub err : Option (List ℕ)
   pub err_faults : ℕ
 
+-- a count of faults rose, unless it is at its end
+abbrev pub HasRisen : ℕ → ℕ → Type 0
+HasRisen before now = raised before ≤ now
+
 -- the line went to `err`, or a front of it where a write of `err` failed
 abbrev pub GotLine : Option (List ℕ) → ℕ → List ℕ → Option (List ℕ) → ℕ → Type 0
-GotLine old faults line new now = Adds old line new ⊎ (AddsFront old line new × Rose faults now)
+GotLine old faults line new now = Writes old line new ⊎ (WritesFront old line new × HasRisen faults now)
 
 -- the text that is due before anything is written
 pub record IsPrepared (words : List Word) (files : Option (List NamedFile)) (text : List ℕ) : Type 0 where
@@ -78,8 +82,8 @@ HasStoppedAs words u v outcome = (stop : Stop Word) × (outcome ≡ outcome_of s
 
 -- the outcome with all that a call has to have done for it
 abbrev pub HasEnded : List Word → World → World → Outcome → Type 0
-HasEnded words u v outcomes.Done = (text : List ℕ) × IsPrepared words u.files text × Adds u.out text v.out × (v.err ≡ u.err) × (v.failed ≡ u.failed)
-HasEnded words u v outcomes.WriteFault = (text : List ℕ) × IsPrepared words u.files text × AddsFront u.out text v.out × Rose u.out_faults v.out_faults
+HasEnded words u v outcomes.Done = (text : List ℕ) × IsPrepared words u.files text × Writes u.out text v.out × (v.err ≡ u.err) × (v.failed ≡ u.failed)
+HasEnded words u v outcomes.WriteFault = (text : List ℕ) × IsPrepared words u.files text × WritesFront u.out text v.out × HasRisen u.out_faults v.out_faults
     × GotLine u.err u.err_faults (codes "fleet: cannot write\n") v.err v.err_faults × (v.failed ≡ u.failed)
 HasEnded words u v outcome = HasStoppedAs words u v outcome
 
@@ -96,5 +100,5 @@ pub record IsGood (words : List Word) (files : List NamedFile) : Type 0 where
 
 -- good words and files are answered, unless a fetch or a write of `out` failed or memory ran out
 abbrev pub Completes : List Word → World → World → Outcome → Type 0
-Completes words u v outcome = (files : List NamedFile) → u.files ≡ Some files → IsGood words files → v.failed ≡ u.failed → ¬ (Rose u.out_faults v.out_faults)
+Completes words u v outcome = (files : List NamedFile) → u.files ≡ Some files → IsGood words files → v.failed ≡ u.failed → ¬ (HasRisen u.out_faults v.out_faults)
     → (outcome ≡ outcomes.Done) ⊎ (outcome ≡ outcomes.Memory)

@@ -2,7 +2,7 @@
 use Rattle.std.specs.Prelude.{ℕ, Bool, true, false, ◌&&◌, nat_le, if◌then◌else◌, List, [], ◌∷◌, filter, codes, Option, Some, None, unwrap_or}
 use Rattle.std.specs.List.{list_all, list_any}
 use Rattle.std.specs.Str.{bytes_eq}
-use Rattle.text_lines.specs.Text.{number_of}
+use Rattle.text_lines.specs.Numbers.{number_of}
 use Rattle.fleet_run.specs.Sorting.{Word}
 
 infixl 10 ◌>>=◌
