@@ -1,0 +1,10 @@
+pub mod Sorting
+pub mod SortingView
+pub mod Options
+pub mod Words
+pub mod Offered
+pub mod Texts
+pub mod Stopped
+pub mod Asked
+pub mod Ended
+pub mod FirstTimes

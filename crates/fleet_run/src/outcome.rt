@@ -1,0 +1,18 @@
+/// How a call of `fleet` ended. Its number is the exit status of the program.
+#[derive(Clone, Copy, Debug, PartialEq, Eq)]
+pub enum Outcome {
+    /// All of the text was written.
+    Done = 0,
+    /// The words are no command.
+    Usage = 2,
+    /// The map is refused, or longer than 2,097,152 bytes.
+    MapBad = 3,
+    /// A coordinate is outside the map.
+    OrdersBad = 4,
+    /// A file could not be fetched.
+    ReadFault = 5,
+    /// A write of `out` failed.
+    WriteFault = 6,
+    /// Memory ran out.
+    Memory = 7,
+}

@@ -1,0 +1,53 @@
+ghost use Rattle.std.specs.Prelude.{map, string_bytes};
+ghost use Rattle.fleet_run.specs.Ended.{HasEnded, Completes};
+
+use crate::one::prepare;
+use crate::outcome::Outcome;
+use crate::report::{report, write_line};
+use fleet_io::{Shelf, Sink};
+use std::alloc::Global;
+
+fn run<H: Shelf, S: Sink>(
+    alloc: Global,
+    words: &[String],
+    shelf: &mut H,
+    out: &mut S,
+    err: &mut S,
+) -> Outcome
+    ensures { HasEnded (map string_bytes words.now)
+        (record { files = H.told shelf.old; failed = H.failed shelf.old; out = S.told out.old; out_faults = S.faults out.old; err = S.told err.old; err_faults = S.faults err.old })
+        (record { files = H.told shelf.new; failed = H.failed shelf.new; out = S.told out.new; out_faults = S.faults out.new; err = S.told err.new; err_faults = S.faults err.new })
+        result }
+{
+    match prepare(alloc, words, shelf) {
+        Err(stop) => report(alloc, err, stop),
+        Ok(text) => match out.write(text.as_slice()) {
+            Ok(()) => Outcome::Done,
+            Err(_) => {
+                write_line(err, b"fleet: cannot write\n");
+                Outcome::WriteFault
+            }
+        },
+    }
+}
+
+/// Does what the words after the program's name ask for, with the files of `shelf`.
+/// The text goes to `out`. With every outcome but `Done` one line goes to `err`; a fault of `err` changes no outcome.
+pub fn fleet<H: Shelf, S: Sink>(
+    alloc: Global,
+    words: &[String],
+    shelf: &mut H,
+    out: &mut S,
+    err: &mut S,
+) -> Outcome
+    ensures ends { HasEnded (map string_bytes words.now)
+        (record { files = H.told shelf.old; failed = H.failed shelf.old; out = S.told out.old; out_faults = S.faults out.old; err = S.told err.old; err_faults = S.faults err.old })
+        (record { files = H.told shelf.new; failed = H.failed shelf.new; out = S.told out.new; out_faults = S.faults out.new; err = S.told err.new; err_faults = S.faults err.new })
+        result }
+    ensures complete { Completes (map string_bytes words.now)
+        (record { files = H.told shelf.old; failed = H.failed shelf.old; out = S.told out.old; out_faults = S.faults out.old; err = S.told err.old; err_faults = S.faults err.old })
+        (record { files = H.told shelf.new; failed = H.failed shelf.new; out = S.told out.new; out_faults = S.faults out.new; err = S.told err.new; err_faults = S.faults err.new })
+        result }
+{
+    run(alloc, words, shelf, out, err)
+}

@@ -1,0 +1,9 @@
+pub mod CellWords
+pub mod CountWords
+pub mod EntryWords
+pub mod Fields
+pub mod Packing
+pub mod RecordWords
+pub mod References
+pub mod RowHeadWords
+pub mod StatusWords
