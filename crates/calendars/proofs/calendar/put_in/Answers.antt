@@ -1,0 +1,13 @@
+use Rattle.std.proofs.Common.{◌≡◌, length, vec_len, arith}
+use Rattle.std.specs.List.{insert}
+use Rattle.fleet_base.specs.declared.request.Record.{Record}
+use Rattle.calendars.specs.Places.{place_in}
+use Rattle.calendars.specs.Records.{with_record}
+use Rattle.calendars.proofs.PlaceLemmas.{place_within, insert-place_in}
+use Rattle.calendars.proofs.calendar.put_in.Goals as goal
+
+pub returns-in-Ok-clause-ok : goal.returns-in-Ok-clause-ok
+returns-in-Ok-clause-ok c =
+    let place : c.place_of-place.result ≡ place_in c.args.added.from c.args.records.now.items = rw c.as_slice.ensures.value at c.place_of-place.ensures.place in
+    let put : insert c.args.records.now.items (place_in c.args.added.from c.args.records.now.items) c.args.added ≡ with_record c.args.added c.args.records.now.items = insert-place_in c.args.added c.args.records.now.items in
+    cc (c.in-Ok.ensures.items)

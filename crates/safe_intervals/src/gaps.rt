@@ -1,0 +1,123 @@
+ghost use Rattle.std.specs.Prelude.{◌≤◌, IfOk};
+ghost use Rattle.calendars.specs.Records.{InOrderFrom};
+ghost use Rattle.safe_intervals.specs.Safe.{AreSafeIntervals, AnswersGap, LeavesFirst};
+
+use crate::interval::Interval;
+use calendars::Calendar;
+use fleet_base::{Memory, Record};
+use std::alloc::Global;
+
+/// The first maximal free range that ends at `from` or later; none exactly where every time from `from` to the
+/// horizon is taken. The range may begin before `from`. It takes no memory.
+pub fn next_gap(calendar: &Calendar, from: u32, horizon: u32) -> Option<Interval>
+    requires { horizon ≤ 8000 }
+    ensures { AnswersGap calendar.now horizon from result }
+{
+    if from > horizon {
+        return None;
+    }
+    let records = calendar.records();
+    let place = calendar.place_of(from);
+    if place == 0 {
+        return first_gap(records, 0, horizon);
+    }
+    let last = &records[place - 1];
+    if last.to >= horizon {
+        return None;
+    }
+    first_gap(&records[place..], last.to + 1, horizon)
+}
+
+// The first range from `low` on that the records leave.
+fn first_gap(records: &[Record], low: u32, horizon: u32) -> Option<Interval>
+    requires horizon { horizon ≤ 8000 }
+    requires low { low ≤ horizon }
+    requires ordered { InOrderFrom low records.now }
+    ensures { LeavesFirst records.now low horizon result }
+{
+    let mut begin = low;
+    for next in records {
+        if begin < next.from {
+            let end = (next.from - 1).min(horizon);
+            return Some(Interval {
+                from: begin,
+                to: end,
+            });
+        }
+        if next.to >= horizon {
+            return None;
+        }
+        begin = next.to + 1;
+    }
+    Some(Interval {
+        from: begin,
+        to: horizon,
+    })
+}
+
+/// The maximal ranges of times from 0 to the horizon that no record covers, in rising order.
+pub fn intervals(alloc: Global, calendar: &Calendar, horizon: u32) -> Result<Vec<Interval>, Memory>
+    requires { horizon ≤ 8000 }
+    ensures { IfOk result (λ list. AreSafeIntervals calendar.now horizon list.items) }
+{
+    let mut list = Vec::new(alloc);
+    let mut from = 0;
+    while let Some(gap) = next_gap(calendar, from, horizon) {
+        list.push(gap)?;
+        from = gap.to + 1;
+    }
+    Ok(list)
+}
+
+#[cfg(test)]
+mod tests {
+    use super::*;
+    use crate::interval::interval_at;
+    use fleet_base::{FOREVER, RouteId};
+    use std::test::Fail;
+
+    const ID: RouteId = RouteId {
+        stamp: 1,
+        caller: 0,
+    };
+
+    fn range(from: u32, to: u32) -> Interval {
+        Interval { from, to }
+    }
+
+    #[test]
+    fn ranges_between_two_records(rt: HostRuntime) -> Result<(), Fail> {
+        let mut calendar = Calendar::new(rt.alloc());
+        calendar.insert(Record {
+            from: 2,
+            to: 3,
+            id: ID,
+        })?;
+        calendar.insert(Record {
+            from: 5,
+            to: 5,
+            id: ID,
+        })?;
+        let list = intervals(rt.alloc(), &calendar, 7)?;
+        let wanted = [range(0, 1), range(4, 4), range(6, 7)];
+        assert!(rt; list.as_slice() == wanted.as_slice());
+        assert_eq!(rt; interval_at(list.as_slice(), 5), None);
+        assert_eq!(rt; interval_at(list.as_slice(), 6), Some(2));
+        Ok(())
+    }
+
+    #[test]
+    fn no_range_where_all_is_taken(rt: HostRuntime) -> Result<(), Fail> {
+        for to in [8000, FOREVER] {
+            let mut calendar = Calendar::new(rt.alloc());
+            calendar.insert(Record {
+                from: 0,
+                to,
+                id: ID,
+            })?;
+            let list = intervals(rt.alloc(), &calendar, 8000)?;
+            assert_eq!(rt; list.len(), 0);
+        }
+        Ok(())
+    }
+}
