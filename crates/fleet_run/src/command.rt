@@ -1,6 +1,6 @@
 /// What a command line asks for. `N` is the name of a file, as the words have it.
 /// An option that was left out has its default here; `take` has none.
-#[derive(Drop)]
+#[derive(Clone, Copy, Debug, PartialEq, Eq)]
 pub enum Command<N> {
     /// One route in an empty book.
     One {

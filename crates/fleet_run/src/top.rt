@@ -1,5 +1,5 @@
 ghost use Rattle.std.specs.Prelude.{map, string_bytes};
-ghost use Rattle.fleet_run.specs.Ended.{HasEnded, Completes};
+ghost use Rattle.fleet_run.specs.Ended.{World, HasEnded, Completes};
 
 use crate::one::prepare;
 use crate::outcome::Outcome;
@@ -14,10 +14,23 @@ fn run<H: Shelf, S: Sink>(
     out: &mut S,
     err: &mut S,
 ) -> Outcome
-    ensures { HasEnded (map string_bytes words.now)
-        (record { files = H.told shelf.old; failed = H.failed shelf.old; out = S.told out.old; out_faults = S.faults out.old; err = S.told err.old; err_faults = S.faults err.old })
-        (record { files = H.told shelf.new; failed = H.failed shelf.new; out = S.told out.new; out_faults = S.faults out.new; err = S.told err.new; err_faults = S.faults err.new })
-        result }
+    ensures { let before : World = record {
+      files = H.told shelf.old;
+      failed = H.failed shelf.old;
+      out = S.told out.old;
+      out_faults = S.faults out.old;
+      err = S.told err.old;
+      err_faults = S.faults err.old;
+    } in
+        let after : World = record {
+          files = H.told shelf.new;
+          failed = H.failed shelf.new;
+          out = S.told out.new;
+          out_faults = S.faults out.new;
+          err = S.told err.new;
+          err_faults = S.faults err.new;
+        } in
+        HasEnded (map string_bytes words.now) before after result }
 {
     match prepare(alloc, words, shelf) {
         Err(stop) => report(alloc, err, stop),
@@ -40,14 +53,40 @@ pub fn fleet<H: Shelf, S: Sink>(
     out: &mut S,
     err: &mut S,
 ) -> Outcome
-    ensures ends { HasEnded (map string_bytes words.now)
-        (record { files = H.told shelf.old; failed = H.failed shelf.old; out = S.told out.old; out_faults = S.faults out.old; err = S.told err.old; err_faults = S.faults err.old })
-        (record { files = H.told shelf.new; failed = H.failed shelf.new; out = S.told out.new; out_faults = S.faults out.new; err = S.told err.new; err_faults = S.faults err.new })
-        result }
-    ensures complete { Completes (map string_bytes words.now)
-        (record { files = H.told shelf.old; failed = H.failed shelf.old; out = S.told out.old; out_faults = S.faults out.old; err = S.told err.old; err_faults = S.faults err.old })
-        (record { files = H.told shelf.new; failed = H.failed shelf.new; out = S.told out.new; out_faults = S.faults out.new; err = S.told err.new; err_faults = S.faults err.new })
-        result }
+    ensures ends { let before : World = record {
+      files = H.told shelf.old;
+      failed = H.failed shelf.old;
+      out = S.told out.old;
+      out_faults = S.faults out.old;
+      err = S.told err.old;
+      err_faults = S.faults err.old;
+    } in
+        let after : World = record {
+          files = H.told shelf.new;
+          failed = H.failed shelf.new;
+          out = S.told out.new;
+          out_faults = S.faults out.new;
+          err = S.told err.new;
+          err_faults = S.faults err.new;
+        } in
+        HasEnded (map string_bytes words.now) before after result }
+    ensures complete { let before : World = record {
+      files = H.told shelf.old;
+      failed = H.failed shelf.old;
+      out = S.told out.old;
+      out_faults = S.faults out.old;
+      err = S.told err.old;
+      err_faults = S.faults err.old;
+    } in
+        let after : World = record {
+          files = H.told shelf.new;
+          failed = H.failed shelf.new;
+          out = S.told out.new;
+          out_faults = S.faults out.new;
+          err = S.told err.new;
+          err_faults = S.faults err.new;
+        } in
+        Completes (map string_bytes words.now) before after result }
 {
     run(alloc, words, shelf, out, err)
 }
