@@ -85,7 +85,8 @@ pub fn next_filled_line(before: u32, text: &[u8]) -> Option<FilledLine<'_>>
 
 /// How many lines a text has, empty ones included.
 pub fn count_lines(text: &[u8]) -> usize
-    ensures { result ≡ length (lines_of text.now) }
+    ensures count { result ≡ length (lines_of text.now) }
+    ensures few { result ≤ length text.now }
 {
     let mut count = 0;
     let mut rest = text;
