@@ -1,4 +1,4 @@
-use crate::call::{CORRIDOR, Failing, NOTHING_FAILS, call};
+use crate::calling::{CORRIDOR, Failing, NOTHING_FAILS, call};
 use std::test::Fail;
 
 const SHORT_ROW: &str = "type octile\nheight 2\nwidth 3\nmap\n...\n..\n";
@@ -52,7 +52,7 @@ fn a_refusal_writes_its_line(rt: HostRuntime) -> Result<(), Fail> {
         ),
     ] {
         let ended = call(rt.alloc(), line, map.as_bytes(), NOTHING_FAILS)?;
-        assert_eq!(rt; ended.status, status, "at {line}");
+        assert_eq!(rt; ended.outcome as u32, status, "at {line}");
         assert!(rt; ended.out.bytes().is_empty(), "at {line}");
         assert_eq!(rt; ended.err.bytes(), wanted.as_bytes(), "at {line}");
     }
@@ -79,7 +79,7 @@ fn calls_that_fail(rt: HostRuntime) -> Result<(), Fail> {
         (SHORT_ROW, err, 3, ""),
     ] {
         let ended = call(rt.alloc(), "one m.map 0 0 2 0", map.as_bytes(), failing)?;
-        assert_eq!(rt; ended.status, status, "at {wanted}");
+        assert_eq!(rt; ended.outcome as u32, status, "at {wanted}");
         assert!(rt; ended.out.bytes().is_empty(), "at {wanted}");
         assert_eq!(rt; ended.err.bytes(), wanted.as_bytes(), "at {wanted}");
     }
@@ -105,7 +105,7 @@ fn bytes_that_are_no_map(rt: HostRuntime) -> Result<(), Fail> {
         ),
     ] {
         let ended = call(rt.alloc(), "one m.map 0 0 0 0", map, NOTHING_FAILS)?;
-        assert_eq!(rt; ended.status, 3, "at {wanted}");
+        assert_eq!(rt; ended.outcome as u32, 3, "at {wanted}");
         assert_eq!(rt; ended.err.bytes(), wanted.as_bytes());
     }
     Ok(())
@@ -119,7 +119,7 @@ fn a_map_file_that_is_too_long(rt: HostRuntime) -> Result<(), Fail> {
     assert_eq!(rt; ended.out.bytes(), "route 2 RR\n".as_bytes());
     map.push(b'\n')?;
     let ended = call(rt.alloc(), "one m.map 0 0 2 0", &map, NOTHING_FAILS)?;
-    assert_eq!(rt; ended.status, 3);
+    assert_eq!(rt; ended.outcome as u32, 3);
     assert_eq!(rt;
         ended.err.bytes(),
         "fleet: map line 0: TooLarge\n".as_bytes()

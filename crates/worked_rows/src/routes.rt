@@ -1,4 +1,4 @@
-use crate::call::{CORRIDOR, NOTHING_FAILS, call};
+use crate::calling::{CORRIDOR, NOTHING_FAILS, call};
 use std::test::Fail;
 
 pub const CLOSED_FIRST: &str = "type octile\nheight 1\nwidth 2\nmap\n@.\n";
@@ -26,7 +26,7 @@ fn one_prints_a_route_or_none(rt: HostRuntime) -> Result<(), Fail> {
         ("one m.map 0 0 4 0", WALL, "route 8 RDDRRUUR\n"),
     ] {
         let ended = call(rt.alloc(), line, map.as_bytes(), NOTHING_FAILS)?;
-        assert_eq!(rt; ended.status, 0, "at {line}");
+        assert_eq!(rt; ended.outcome as u32, 0, "at {line}");
         assert_eq!(rt; ended.out.bytes(), wanted.as_bytes(), "at {line}");
         assert!(rt; ended.err.bytes().is_empty(), "at {line}");
     }
@@ -47,7 +47,7 @@ fn one_prints_the_canonical_route(rt: HostRuntime) -> Result<(), Fail> {
         ("one m.map 2 2 0 0", OPEN_3_BY_3, "route 4 UULL\n"),
     ] {
         let ended = call(rt.alloc(), line, map.as_bytes(), NOTHING_FAILS)?;
-        assert_eq!(rt; ended.status, 0, "at {line}");
+        assert_eq!(rt; ended.outcome as u32, 0, "at {line}");
         assert_eq!(rt; ended.out.bytes(), wanted.as_bytes(), "at {line}");
     }
     Ok(())
