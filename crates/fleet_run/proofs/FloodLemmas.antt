@@ -16,7 +16,7 @@ use Rattle.fleet_base.proofs.WalkLemmas.{nat_cases}
 use Rattle.fleet_base.proofs.TrafficLemmas.{same_cells}
 use Rattle.fleet_run.specs.declared.flood.TheConstants.{UNREACHED, HORIZON}
 use Rattle.fleet_run.specs.declared.flood.Flood.{Flood}
-use Rattle.fleet_run.specs.FirstTimes.{time_of, CanBeOn, AreFirstTimes, IsLeft, IsFloodFrom, GoesOn, IsEntered, IsFlood}
+use Rattle.fleet_run.specs.FirstTimes.{time_of, CanBeOn, AreFirstTimes, IsExpanded, IsFloodFrom, GoesOn, IsEntered, IsFlood}
 
 -- in an empty book each step is clear
 pub clear_step : (c d : Cell) (t : ℕ) → IsClearStep (traffic_of []) c d t
@@ -92,7 +92,7 @@ module _ (g : Terrain) (s : Cell) (inside : s.0 < length g.cells) where
       | inr old ↦ absurd (omega arith)
     ];
     bounded = λ d reached. elim (begun_cases d) [ inl new ↦ omega arith | inr old ↦ absurd (omega arith) ];
-    left = λ k d below is. absurd (omega arith);
+    expanded = λ k d below is. absurd (omega arith);
     now = λ k d since below is. first k d is;
     next = λ k d since is. absurd (past k d since is);
   }
@@ -117,7 +117,7 @@ module _ (g : Terrain) (s : Cell) (inside : s.0 < length g.cells) where
     sound = λ d reached. absurd (omega (arith, unreached_at d));
     queued = λ d reached. absurd (omega (arith, unreached_at d));
     bounded = λ d reached. absurd (omega (arith, unreached_at d));
-    left = λ k d below is. absurd (omega arith);
+    expanded = λ k d below is. absurd (omega arith);
     now = λ k d since below is. absurd (omega arith);
     next = λ k d since is. absurd (cc);
   }
@@ -173,9 +173,9 @@ module _ (g : Terrain) (s : Cell) (time head end : ℕ) (times : List ℕ) (queu
       | inl new ↦ omega arith
       | inr old ↦ omega (arith, flood.bounded d (omega arith))
     ];
-    left = λ k d below is. elim (queue_cases queue n d k is) [
+    expanded = λ k d below is. elim (queue_cases queue n d k is) [
       | inl old ↦
-          let was = flood.left k d below old in
+          let was = flood.expanded k d below old in
           let same : time_of new_times d ≡ time_of times d = time_kept d (omega (arith, was.0)) in
           (omega (arith, was.0), (λ other e b o. omega (arith, time_falls e, was.1 other e b o)))
       | inr new ↦ absurd (omega (arith, flood.low, flood.high))
@@ -191,10 +191,10 @@ module _ (g : Terrain) (s : Cell) (time head end : ℕ) (times : List ℕ) (queu
   }
 
 module _ (g : Terrain) (s : Cell) (time head end : ℕ) (times : List ℕ) (queue : List Cell) (flood : IsFloodFrom g s time head end times queue) where
-  -- the cell at the head is left once its open neighbours are reached
-  pub head_left : (c : Cell) → head < end → slice_get queue head ≡ Some c
+  -- the cell at the head is expanded once its open neighbours are reached
+  pub head_expanded : (c : Cell) → head < end → slice_get queue head ≡ Some c
       → ((side : Side) (d : Cell) → IsBeside g side c d → IsOpen g d → time_of times d ≤ time + 1) → IsFloodFrom g s time (head + 1) end times queue
-  head_left c some at entered = record {
+  head_expanded c some at entered = record {
     room = flood.room;
     low = omega arith;
     high = flood.high;
@@ -202,8 +202,8 @@ module _ (g : Terrain) (s : Cell) (time head end : ℕ) (times : List ℕ) (queu
     sound = flood.sound;
     queued = flood.queued;
     bounded = flood.bounded;
-    left = λ k d below is. elim (nat_cases k head) [
-      | inl before ↦ flood.left k d before is
+    expanded = λ k d below is. elim (nat_cases k head) [
+      | inl before ↦ flood.expanded k d before is
       | inr since ↦
           let e : k ≡ head = omega arith in
           let here : slice_get queue head ≡ Some d = rw e at is in
@@ -215,7 +215,7 @@ module _ (g : Terrain) (s : Cell) (time head end : ℕ) (times : List ℕ) (queu
     next = flood.next;
   }
 
-  -- once all cells of a time are left, the next time begins
+  -- once all cells of a time are expanded, the next time begins
   pub next_time : end ≤ head → time < HORIZON → IsFloodFrom g s (time + 1) head (length queue) times queue
   next_time over more = record {
     room = flood.room;
@@ -225,7 +225,7 @@ module _ (g : Terrain) (s : Cell) (time head end : ℕ) (times : List ℕ) (queu
     sound = flood.sound;
     queued = flood.queued;
     bounded = λ d reached. omega (arith, flood.bounded d reached);
-    left = λ k d below is. let was = flood.left k d below is in (omega (arith, was.0), was.1);
+    expanded = λ k d below is. let was = flood.expanded k d below is in (omega (arith, was.0), was.1);
     now = λ k d since below is. flood.next k d (omega (arith, flood.low)) is;
     next = λ k d since is. absurd (past k d since is);
   }
@@ -233,25 +233,25 @@ module _ (g : Terrain) (s : Cell) (time head end : ℕ) (times : List ℕ) (queu
       past : (k : ℕ) (d : Cell) → length queue ≤ k → slice_get queue k ≡ Some d → ⊥
       past k d since is = let none : slice_get queue k ≡ None = slice_get_past queue k since in absurd (cc)
 
-  -- at the horizon, each cell that is reached before it was left
-  left_before : time ≡ HORIZON → end ≡ length queue → (c : Cell) → time_of times c < HORIZON → IsLeft g times c
-  left_before last whole c before =
+  -- at the horizon, each cell that is reached before it was expanded
+  expanded_before : time ≡ HORIZON → end ≡ length queue → (c : Cell) → time_of times c < HORIZON → IsExpanded g times c
+  expanded_before last whole c before =
       let place = flood.queued c (omega arith) in
       let within : place.0 < length queue = slice_get_within queue place.0 c place.1 in
       elim (nat_cases place.0 head) [
-        | inl below ↦ (flood.left place.0 c below place.1).1
+        | inl below ↦ (flood.expanded place.0 c below place.1).1
         | inr since ↦ let now : time_of times c ≡ time = flood.now place.0 c since (omega arith) place.1 in absurd (omega arith)
       ]
 
-  after_step : {c d : Cell} {t : ℕ} → (time_of times c < HORIZON → IsLeft g times c) → t + 1 ≤ HORIZON → time_of times c ≤ t → IsOpen g d → IsStep g c d
+  after_step : {c d : Cell} {t : ℕ} → (time_of times c < HORIZON → IsExpanded g times c) → t + 1 ≤ HORIZON → time_of times c ≤ t → IsOpen g d → IsStep g c d
       → time_of times d ≤ t + 1
-  after_step {c} {d} {t} left in_time was opened (inl waits) = let e : time_of times d ≡ time_of times c = ap (λ (x : Cell). time_of times x) waits in omega arith
-  after_step {c} {d} {t} left in_time was opened (inr (side, beside)) = omega (arith, left (omega arith) side d beside opened)
+  after_step {c} {d} {t} expanded in_time was opened (inl waits) = let e : time_of times d ≡ time_of times c = ap (λ (x : Cell). time_of times x) waits in omega arith
+  after_step {c} {d} {t} expanded in_time was opened (inr (side, beside)) = omega (arith, expanded (omega arith) side d beside opened)
 
   least_time : time ≡ HORIZON → end ≡ length queue → {c : Cell} {t : ℕ} → t ≤ HORIZON → CanBeOn g s c t → time_of times c ≤ t
   least_time last whole in_time (begin opened untaken) = let zero_at : time_of times s ≡ 0 = flood.begun opened in omega arith
   least_time last whole in_time (step {c} {d} {t} before moves opened clear) =
-      after_step (left_before last whole c) in_time (least_time last whole (omega arith) before) opened moves
+      after_step (expanded_before last whole c) in_time (least_time last whole (omega arith) before) opened moves
 
   pub all_timed : time ≡ HORIZON → end ≡ length queue → AreFirstTimes g s times
   all_timed last whole = record {
@@ -267,11 +267,11 @@ entered_kept g f next side c goes_on more entered d beside opened =
     let same : time_of next.times.items d ≡ time_of f.times.items d = goes_on.keeps.reached d (omega arith) in
     omega (arith, goes_on.time)
 
--- a cell that was left to its four sides
-pub left_to_all : (g : Terrain) (f one two three four : Flood) (c : Cell) → IsFlood g f → f.time < HORIZON → f.head < f.end → c ≡ get_or f.queue.items f.head c
+-- a cell whose four sides were entered is expanded
+pub expands : (g : Terrain) (f one two three four : Flood) (c : Cell) → IsFlood g f → f.time < HORIZON → f.head < f.end → c ≡ get_or f.queue.items f.head c
     → GoesOn f one → IsEntered g one Up c → GoesOn one two → IsEntered g two Left c → GoesOn two three → IsEntered g three Right c
     → GoesOn three four → IsEntered g four Down c → IsFlood g four → IsFloodFrom g four.start four.time (four.head + 1) four.end four.times.items four.queue.items
-left_to_all g f one two three four c flood more some is to_one up to_two left to_three right to_four down last =
+expands g f one two three four c flood more some is to_one up to_two left to_three right to_four down last =
     let up_two : IsEntered g two Up c = entered_kept g one two Up c to_two (omega (arith, to_one.time)) up in
     let up_three : IsEntered g three Up c = entered_kept g two three Up c to_three (omega (arith, to_one.time, to_two.time)) up_two in
     let left_three : IsEntered g three Left c = entered_kept g two three Left c to_three (omega (arith, to_one.time, to_two.time)) left in
@@ -284,7 +284,7 @@ left_to_all g f one two three four c flood more some is to_one up to_two left to
     to_four.keeps.queued f.head c (to_three.keeps.queued f.head c (to_two.keeps.queued f.head c (to_one.keeps.queued f.head c found))) in
     let heads : four.head ≡ f.head = to_four.head ∙ (to_three.head ∙ (to_two.head ∙ to_one.head)) in
     let ends : four.end ≡ f.end = to_four.end ∙ (to_three.end ∙ (to_two.end ∙ to_one.end)) in
-    head_left g four.start four.time four.head four.end four.times.items four.queue.items last c (omega arith) (rw heads at) (all up_four left_four right_four)
+    head_expanded g four.start four.time four.head four.end four.times.items four.queue.items last c (omega arith) (rw heads at) (all up_four left_four right_four)
   where
     all : IsEntered g four Up c → IsEntered g four Left c → IsEntered g four Right c → (side : Side) → IsEntered g four side c
     all up' left' right' Up = up'

@@ -4,3 +4,4 @@ pub mod OneLemmas
 pub mod Complete
 pub mod FloodLemmas
 pub mod WayLemmas
+pub mod SideLemmas

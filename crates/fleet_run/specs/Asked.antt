@@ -12,7 +12,6 @@ use Rattle.map_text.specs.declared.fault.MapKind.{MapKind}
 use Rattle.map_text.specs.declared.fault.MapKind.TheVariants as kinds
 use Rattle.map_text.specs.MapGrammar.{map_of}
 use Rattle.fleet_run.specs.declared.command.Command.TheVariants.{One}
-use Rattle.fleet_run.specs.declared.flood.TheConstants.{HORIZON}
 use Rattle.fleet_run.specs.Sorting.{Word}
 use Rattle.fleet_run.specs.Offered.{offered_of}
 use Rattle.fleet_run.specs.Texts.{answer_text}
@@ -57,11 +56,15 @@ request_of g from to = record { start = cell_at g from.0 from.1; goal = cell_at 
 abbrev pub asked_request : Terrain → Asked → Request
 asked_request g a = request_of g (a.from_x, a.from_y) (a.to_x, a.to_y)
 
+-- the last time at which a walk may arrive
+abbrev pub horizon_of_one : ℕ
+horizon_of_one = 8000
+
 -- In an empty book: the canonical walk, which is a walk of the request that arrives as early as any does;
 -- or none where there is no walk.
 abbrev pub IsAnswer : Terrain → Request → Option TimedWalk → Type 0
-IsAnswer g q None = NoneFree g HORIZON q []
-IsAnswer g q (Some w) = IsLeast g HORIZON q [] w × IsCanonical g HORIZON (traffic_of []) q w
+IsAnswer g q None = NoneFree g horizon_of_one q []
+IsAnswer g q (Some w) = IsLeast g horizon_of_one q [] w × IsCanonical g horizon_of_one (traffic_of []) q w
 
 -- the text is that of an answer
 pub record IsText (g : Terrain) (q : Request) (text : List ℕ) : Type 0 where

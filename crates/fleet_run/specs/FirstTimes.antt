@@ -23,11 +23,11 @@ pub record AreFirstTimes (g : Terrain) (s : Cell) (times : List ℕ) : Type 0 wh
   pub sound : (c : Cell) → time_of times c ≤ HORIZON → CanBeOn g s c (time_of times c)
   pub least : (c : Cell) (t : ℕ) → t ≤ HORIZON → CanBeOn g s c t → time_of times c ≤ t
 
--- each open cell beside c is reached one step after c at the latest
-abbrev pub IsLeft : Terrain → List ℕ → Cell → Type 0
-IsLeft g times c = (side : Side) (d : Cell) → IsBeside g side c d → IsOpen g d → time_of times d ≤ time_of times c + 1
+-- c was expanded: each open cell beside it is reached one step after it at the latest
+abbrev pub IsExpanded : Terrain → List ℕ → Cell → Type 0
+IsExpanded g times c = (side : Side) (d : Cell) → IsBeside g side c d → IsOpen g d → time_of times d ≤ time_of times c + 1
 
--- A breadth-first search from s: the cells of the queue before `head` were left to all sides,
+-- A breadth-first search from s: the cells of the queue before `head` were expanded,
 -- those from there to `end` are reached at `time`, and the later ones at the time after it.
 pub record IsFloodFrom (g : Terrain) (s : Cell) (time head end : ℕ) (times : List ℕ) (queue : List Cell) : Type 0 where
   pub room : length times ≡ length g.cells
@@ -37,7 +37,7 @@ pub record IsFloodFrom (g : Terrain) (s : Cell) (time head end : ℕ) (times : L
   pub sound : (c : Cell) → time_of times c < UNREACHED → CanBeOn g s c (time_of times c)
   pub queued : (c : Cell) → time_of times c < UNREACHED → (k : ℕ) × (slice_get queue k ≡ Some c)
   pub bounded : (c : Cell) → time_of times c < UNREACHED → time_of times c ≤ time + 1
-  pub left : (k : ℕ) (c : Cell) → k < head → slice_get queue k ≡ Some c → (time_of times c ≤ time) × IsLeft g times c
+  pub expanded : (k : ℕ) (c : Cell) → k < head → slice_get queue k ≡ Some c → (time_of times c ≤ time) × IsExpanded g times c
   pub now : (k : ℕ) (c : Cell) → head ≤ k → k < end → slice_get queue k ≡ Some c → time_of times c ≡ time
   pub next : (k : ℕ) (c : Cell) → end ≤ k → slice_get queue k ≡ Some c → time_of times c ≡ time + 1
 

@@ -11,7 +11,7 @@ pub(crate) const UNREACHED: u32 = u32::MAX;
 pub(crate) const HORIZON: u32 = 8_000;
 
 // A breadth-first search from a cell. `times` has the time at which each cell is first reached.
-// The cells of `queue` before `head` were left to all sides, those from there to `end` are reached at `time`,
+// The cells of `queue` before `head` were expanded, those from there to `end` are reached at `time`,
 // and the later ones one step after it.
 #[derive(Drop)]
 pub(crate) struct Flood {
@@ -68,8 +68,8 @@ impl Flood {
         Ok(())
     }
 
-    // Leaves the cell at the head of the queue to all sides.
-    fn leave(&mut self, grid: &Grid) -> Result<(), Memory>
+    // Expands the cell at the head of the queue: enters the cells on its four sides.
+    fn expand(&mut self, grid: &Grid) -> Result<(), Memory>
         requires flood { IsFlood grid.now self.old }
         requires some { self.old.head < self.old.end }
         requires more { self.old.time < HORIZON }
@@ -98,7 +98,7 @@ impl Flood {
         ensures whole { OnOk result (self.new.end ≡ length self.new.queue.items) }
     {
         while self.head < self.end {
-            self.leave(grid)?;
+            self.expand(grid)?;
         }
         self.time += 1;
         self.end = self.queue.len();

@@ -1,5 +1,5 @@
 use Rattle.std.proofs.Common.{sym, ◌∙◌}
-use Rattle.fleet_run.proofs.WayLemmas.{right_is_first, first_of_all}
+use Rattle.fleet_run.proofs.SideLemmas.{right_is_first, first_of_all}
 use Rattle.fleet_run.proofs.search.first_reached.Goals as goal
 
 pub returns-then-is_some-3 : goal.returns-then-is_some-3

@@ -1,5 +1,5 @@
-use Rattle.fleet_run.proofs.FloodLemmas.{left_to_all}
-use Rattle.fleet_run.proofs.flood.Flood.leave.Goals as goal
+use Rattle.fleet_run.proofs.FloodLemmas.{expands}
+use Rattle.fleet_run.proofs.flood.Flood.expand.Goals as goal
 
 pub returns-clause-flood : goal.returns-clause-flood
 returns-clause-flood c =
@@ -7,5 +7,5 @@ returns-clause-flood c =
     let two = c.in_ok-enter-2.ensures in
     let three = c.in_ok-enter-3.ensures in
     let four = c.in_ok-enter-4.ensures in
-    left_to_all c.args.grid.now c.args.self.now c.enter.new.self c.enter-2.new.self c.enter-3.new.self c.enter-4.new.self c.index-cell.result.now
+    expands c.args.grid.now c.args.self.now c.enter.new.self c.enter-2.new.self c.enter-3.new.self c.enter-4.new.self c.index-cell.result.now
     c.requires.flood c.requires.more c.requires.some c.index-cell.ensures one.goes_on one.entered two.goes_on two.entered three.goes_on three.entered four.goes_on four.entered four.flood
