@@ -29,7 +29,8 @@ impl Flood {
     // Only the start is reached, where it is open.
     fn begin(alloc: Global, grid: &Grid, start: Cell) -> Result<Flood, Memory>
         requires { start.0 < length grid.now.cells }
-        ensures { IfOk result (λ f. IsFlood grid.now f × (f.start ≡ start) × (f.time ≡ 0) × (f.head ≡ 0) × (f.end ≡ length f.queue.items)) }
+        ensures { IfOk result (λ f. IsFlood grid.now f × (f.start ≡ start) × (f.time ≡ 0) × (f.head ≡ 0)
+            × (f.end ≡ length f.queue.items)) }
     {
         let count = grid.cells().len();
         let mut flood = Flood {
@@ -88,7 +89,7 @@ impl Flood {
         Ok(())
     }
 
-    // Goes on to the next time.
+    // Expands all cells that are reached at this time, and goes on to the next one.
     fn step(&mut self, grid: &Grid) -> Result<(), Memory>
         requires flood { IsFlood grid.now self.old }
         requires more { self.old.time < HORIZON }

@@ -63,7 +63,8 @@ pub(crate) fn prepare<'a, H: Shelf>(
     shelf: &mut H,
 ) -> Result<Vec<u8>, Stop<&'a str>>
     ensures told { H.told shelf.new ≡ H.told shelf.old }
-    ensures prepared { HasPrepared (λ n. n.now) (λ text. text.items) (map string_bytes words.now) (H.told shelf.old) (H.failed shelf.old) (H.failed shelf.new) result }
+    ensures prepared { HasPrepared (λ n. n.now) (λ text. text.items) (map string_bytes words.now)
+        (H.told shelf.old) (H.failed shelf.old) (H.failed shelf.new) result }
 {
     let Ok(command) = read_words(alloc, words) else {
         return Err(Stop::NoMemory);

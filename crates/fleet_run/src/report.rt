@@ -25,7 +25,8 @@ fn kind_name(kind: MapKind) -> &'static str
 }
 
 fn map_line(alloc: Global, line: u32, kind: &str) -> Result<Vec<u8>, AllocError>
-    ensures { IfOk result (λ text. text.items ≡ codes "fleet: map line " ++ decimal line ++ codes ": " ++ kind.now ++ codes "\n") }
+    ensures { IfOk result (λ text.
+        text.items ≡ codes "fleet: map line " ++ decimal line ++ codes ": " ++ kind.now ++ codes "\n") }
 {
     let mut number = Buffer::new();
     let mut text = Vec::from_slice(alloc, b"fleet: map line ")?;
@@ -78,7 +79,8 @@ pub(crate) fn write_line<S: Sink>(err: &mut S, line: &[u8])
 
 // Writes the line of a stop, and tells the outcome.
 pub(crate) fn report<S: Sink>(alloc: Global, err: &mut S, stop: Stop<&str>) -> Outcome
-    ensures { HasReported (λ n. n.now) stop.entry (S.told err.old) (S.faults err.old) (S.told err.new) (S.faults err.new) result }
+    ensures { HasReported (λ n. n.now) stop.entry
+        (S.told err.old) (S.faults err.old) (S.told err.new) (S.faults err.new) result }
 {
     match line_of(alloc, stop) {
         Ok(line) => {

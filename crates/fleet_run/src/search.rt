@@ -54,7 +54,8 @@ fn read_back(
     requires times { AreFirstTimes grid.now request.start times.now }
     requires arrives { time_of times.now request.goal ≡ arrival }
     requires in_time { arrival ≤ HORIZON }
-    ensures { IfOk result (λ cells. (length cells.items ≡ arrival + 1) × IsWay grid.now times.now request.goal request.start 0 cells.items) }
+    ensures { IfOk result (λ cells. (length cells.items ≡ arrival + 1)
+        × IsWay grid.now times.now request.goal request.start 0 cells.items) }
 {
     let mut cells = vec![in alloc; request.goal; arrival as usize + 1]?;
     let mut cell = request.goal;

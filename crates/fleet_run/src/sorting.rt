@@ -83,8 +83,10 @@ fn kind_of(word: &[u8]) -> WordKind<&[u8]>
 fn read_free_word<'a>(sorting: &mut Sorting<'a>, text: &'a str) -> Result<bool, Memory>
     requires before { sorting.old.ended ≡ false }
     requires free { sorting.old.waiting ≡ None }
-    ensures goes_on { IfOk result (λ good. IsTrue good → ((ws : List Word) → sorted_after sorting.old (text.now ∷ ws) ≡ sorted_after sorting.new ws)) }
-    ensures stops { IfOk result (λ good. ¬ (IsTrue good) → ((ws : List Word) → sorted_after sorting.old (text.now ∷ ws) ≡ None)) }
+    ensures goes_on { IfOk result (λ good. IsTrue good → ((ws : List Word) →
+        sorted_after sorting.old (text.now ∷ ws) ≡ sorted_after sorting.new ws)) }
+    ensures stops { IfOk result (λ good. ¬ (IsTrue good) → ((ws : List Word) →
+        sorted_after sorting.old (text.now ∷ ws) ≡ None)) }
 {
     match kind_of(text.as_bytes()) {
         WordKind::Ends => sorting.ended = true,
@@ -98,8 +100,10 @@ fn read_free_word<'a>(sorting: &mut Sorting<'a>, text: &'a str) -> Result<bool, 
 
 // Reads one word more. False where the words are no command's.
 fn read_word<'a>(sorting: &mut Sorting<'a>, text: &'a str) -> Result<bool, Memory>
-    ensures goes_on { IfOk result (λ good. IsTrue good → ((ws : List Word) → sorted_after sorting.old (text.now ∷ ws) ≡ sorted_after sorting.new ws)) }
-    ensures stops { IfOk result (λ good. ¬ (IsTrue good) → ((ws : List Word) → sorted_after sorting.old (text.now ∷ ws) ≡ None)) }
+    ensures goes_on { IfOk result (λ good. IsTrue good → ((ws : List Word) →
+        sorted_after sorting.old (text.now ∷ ws) ≡ sorted_after sorting.new ws)) }
+    ensures stops { IfOk result (λ good. ¬ (IsTrue good) → ((ws : List Word) →
+        sorted_after sorting.old (text.now ∷ ws) ≡ None)) }
 {
     if sorting.ended {
         sorting.plain.push(text)?;

@@ -39,6 +39,7 @@ fn push_moves(text: &mut Vec<u8>, grid: &Grid, cells: &[Cell]) -> Result<(), Mem
         return Ok(());
     }
     let width = grid.width();
+    // It tells that the width isn't 0.
     let _limits = grid.cells();
     let mut from = *first;
     for to in later {

@@ -161,7 +161,8 @@ fn turns_of<'a>(plain: &[&'a str], options: &[Given<'_>]) -> Option<Command<&'a 
 }
 
 fn command_by<'a>(name: &str, plain: &[&'a str], options: &[Given<'_>]) -> Option<Command<&'a str>>
-    ensures { option_map (named (λ n. n.now)) result ≡ command_by name.now (record { plain = map (λ w. w.now) plain.now; options = map given options.now }) }
+    ensures { option_map (named (λ n. n.now)) result
+        ≡ command_by name.now (record { plain = map (λ w. w.now) plain.now; options = map given options.now }) }
 {
     match name {
         "one" => one_of(plain, options),
