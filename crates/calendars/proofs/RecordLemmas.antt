@@ -1,10 +1,10 @@
 -- Records in order: which times they cover, and that the changes of a calendar keep the order.
-use Rattle.std.proofs.Common.{arith, subst, sym, ap, ◌∙◌, refl, inl, inr, cond, ◌⊎◌}
-use Rattle.std.proofs.lemmas.Bool.{cases_lt, cases_eq, false≢true, and_parts, and_from, and_left, and_right, le-leb, lt-leb, lt-ltb, le-ltb, ltb-true, ltb-false, leb-true, eq-eqb, eqb-true}
-use Rattle.std.specs.Prelude.{◌≡◌, ◌≢◌, ℕ, zero, suc, ◌+◌, ◌<◌, ◌≤◌, ◌==◌, ◌&&◌, ◌||◌, nat_lt, nat_le, Bool, true, false, List, [], ◌∷◌, filter, if◌then◌else◌}
+use Rattle.std.proofs.Common.{arith, sym, ap, ◌∙◌, refl, inl, inr, ◌⊎◌}
+use Rattle.std.proofs.lemmas.Bool.{cases_lt, false≢true, and_from, and_left, and_right, le-leb, lt-leb, ltb-true, ltb-false, eq-eqb, eqb-true}
+use Rattle.std.specs.Prelude.{◌≡◌, ◌≢◌, ℕ, ◌+◌, ◌<◌, ◌≤◌, ◌==◌, ◌||◌, nat_lt, nat_le, Bool, true, false, List, [], ◌∷◌, filter, if◌then◌else◌}
 use Rattle.fleet_base.specs.declared.request.Record.{Record}
 use Rattle.fleet_base.specs.declared.request.TheConstants.{FOREVER}
-use Rattle.calendars.specs.Records.{covers, holds_time, InOrderFrom, InOrder, with_record, IsApart}
+use Rattle.calendars.specs.Records.{covers, holds_time, InOrderFrom, with_record, IsApart}
 
 or_false : (x y : Bool) → (x || y) ≡ false → (x ≡ false) × (y ≡ false)
 or_false true y e = absurd (cc)

@@ -1,6 +1,6 @@
 -- A view over two lists: a calendar for each cell, and a mark at each loaded one.
 use Rattle.std.specs.Prelude.{◌≡◌, ℕ, ◌<◌, Bool, true, false, List, Option, Some, None, IsSome, length, slice_get, unwrap_or, refl, if◌then◌else◌}
-use Rattle.std.proofs.Common.{◌∙◌, sym}
+use Rattle.std.proofs.Common.{◌∙◌}
 use Rattle.std.proofs.lemmas.Bool.{false≢true}
 use Rattle.std.proofs.lemmas.Option.{slice_get_within}
 use Rattle.fleet_base.specs.declared.request.Record.{Record}

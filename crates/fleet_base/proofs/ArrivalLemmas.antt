@@ -1,15 +1,15 @@
 -- Free walks of a request are arrivals at its goal: so a search answers for all walks by the times that it reached.
-use Rattle.std.proofs.Common.{◌≡◌, ℕ, ◌+◌, ◌-◌, ◌<◌, ◌≤◌, ◌⊎◌, inl, inr, Bool, true, false, List, length, Some, None, refl, sym, ap, subst, ◌∙◌, arith}
+use Rattle.std.proofs.Common.{◌≡◌, ℕ, ◌+◌, ◌-◌, ◌<◌, ◌≤◌, ◌⊎◌, inl, inr, Bool, true, false, List, length, Some, None, refl, sym, subst, ◌∙◌, arith}
 use Rattle.fleet_base.specs.declared.grid.Cell.{Cell}
 use Rattle.fleet_base.specs.declared.request.Request.{Request}
 use Rattle.fleet_base.specs.declared.request.Live.{Live}
 use Rattle.fleet_base.specs.Terrain.{Terrain, IsOpen}
-use Rattle.fleet_base.specs.TimedWalk.{TimedWalk, position, arrival, IsStep}
-use Rattle.fleet_base.specs.Planned.{IsWalkOf, IsFree, NoneBefore, NoneFree, IsLeast}
+use Rattle.fleet_base.specs.TimedWalk.{TimedWalk, position, arrival}
+use Rattle.fleet_base.specs.Planned.{IsWalkOf, NoneBefore, NoneFree}
 use Rattle.fleet_base.specs.Traffic.{Traffic, IsFreeIn, traffic_of}
-use Rattle.fleet_base.specs.Reach.{reaching, IsReachable, Reached, MayEnd, IsArrival}
-use Rattle.fleet_base.proofs.TrafficLemmas.{free_in_traffic, free_from_traffic}
-use Rattle.fleet_base.proofs.WalkLemmas.{nat_cases, bool_cases, HasArrived, position_early, position_within, position_over, position_for_ever, stood_since, some_cells}
+use Rattle.fleet_base.specs.Reach.{Reached, MayEnd, IsArrival}
+use Rattle.fleet_base.proofs.TrafficLemmas.{free_in_traffic}
+use Rattle.fleet_base.proofs.WalkLemmas.{nat_cases, bool_cases, position_early, position_within, position_over, position_for_ever, some_cells}
 use Rattle.fleet_base.proofs.ReachLemmas.{ReachesBy, goal_reached, walk_from_steps, steps_from_walk}
 
 -- where a free walk of the request arrives, its agent may end

@@ -1,5 +1,5 @@
 -- The canonical walk is a least walk of its request, and there is only one.
-use Rattle.std.proofs.Common.{◌≡◌, ◌≢◌, ℕ, zero, suc, ◌+◌, ◌-◌, ◌*◌, ◌<◌, ◌≤◌, ◌⊎◌, inl, inr, Bool, true, false, List, [], ◌∷◌, ◌++◌, length, Some, None, refl, sym, ap, subst, ◌∙◌, arith, add-zero, append_assoc}
+use Rattle.std.proofs.Common.{◌≡◌, ℕ, zero, suc, ◌+◌, ◌-◌, ◌≤◌, inl, inr, Bool, false, List, [], ◌∷◌, ◌++◌, refl, sym, ap, subst, ◌∙◌, arith, add-zero, append_assoc}
 use Rattle.std.specs.Prelude.{replicate}
 use Rattle.std.proofs.lemmas.List.{append-nil}
 use Rattle.std.proofs.lemmas.Bool.{cases_order}
@@ -9,13 +9,13 @@ use Rattle.fleet_base.specs.declared.grid.Side.TheVariants.{Up, Left, Right, Dow
 use Rattle.fleet_base.specs.declared.request.Request.{Request}
 use Rattle.fleet_base.specs.declared.request.Live.{Live}
 use Rattle.fleet_base.specs.Terrain.{Terrain, IsOpen, IsBeside}
-use Rattle.fleet_base.specs.TimedWalk.{TimedWalk, position, arrival, IsStep}
+use Rattle.fleet_base.specs.TimedWalk.{TimedWalk, arrival, IsStep}
 use Rattle.fleet_base.specs.Planned.{IsWalkOf, IsFree, IsLeast}
-use Rattle.fleet_base.specs.Traffic.{Traffic, IsFreeIn, traffic_of}
-use Rattle.fleet_base.specs.Reach.{IsReachable, IsClearStep, IsArrival}
-use Rattle.fleet_base.specs.Canonical.{rank_of, CanPrecede, IsFirstBefore, IsUntaken, IsEarliest, ReadsBack, whole, hop, IsCanonical}
+use Rattle.fleet_base.specs.Traffic.{Traffic, traffic_of}
+use Rattle.fleet_base.specs.Reach.{IsReachable}
+use Rattle.fleet_base.specs.Canonical.{rank_of, IsFirstBefore, IsUntaken, IsEarliest, ReadsBack, whole, hop, IsCanonical}
 use Rattle.fleet_base.proofs.TrafficLemmas.{same_cells, free_from_traffic}
-use Rattle.fleet_base.proofs.ReachLemmas.{ReachesBy, longer, standing, standing_reaches, step_reaches, reachable_open, reachable_untaken}
+use Rattle.fleet_base.proofs.ReachLemmas.{ReachesBy, standing_reaches, step_reaches, reachable_open, reachable_untaken}
 use Rattle.fleet_base.proofs.ArrivalLemmas.{with_mark, walk_of_arrival, free_of_arrival, none_before_from_arrivals}
 
 -- who is beside a cell can step to it

@@ -4,13 +4,13 @@ use Rattle.std.specs.Prelude.{slice_get, not, ◌&&◌}
 use Rattle.std.specs.List.{list_all}
 use Rattle.std.proofs.lemmas.Option.{slice_get_within, get_or_from_slice_get}
 use Rattle.std.proofs.lemmas.List.Sums.{AllPass-from_list_all}
-use Rattle.std.proofs.lemmas.Bool.{and_parts, cases_eq, both_ways, not-true, eq-eqb}
+use Rattle.std.proofs.lemmas.Bool.{and_parts, cases_eq, both_ways, not-true}
 use Rattle.fleet_base.specs.declared.grid.Cell.{Cell}
 use Rattle.fleet_base.specs.Terrain.{Terrain, IsOpen}
 use Rattle.fleet_base.specs.TimedWalk.{TimedWalk, position, place_after, IsStep, MeetAt, Meet}
 use Rattle.fleet_base.specs.Traffic.{is_on}
 use Rattle.fleet_base.proofs.TrafficLemmas.{is_on-some}
-use Rattle.fleet_base.proofs.WalkLemmas.{nat_cases, HasArrived, stands_still, position_since, position_within, stood_since, stood_until}
+use Rattle.fleet_base.proofs.WalkLemmas.{nat_cases, stands_still, position_since, position_within, stood_since, stood_until}
 use Rattle.fleet_base.proofs.Layers.{is_open}
 
 abbrev pub AllSteps : Terrain → List Cell → Type 0

@@ -1,18 +1,15 @@
 -- A cell is reached step by step exactly where a free walk ends on it, and what a search concludes from that.
-use Rattle.std.proofs.Common.{◌≡◌, ◌≢◌, ℕ, zero, suc, ◌+◌, ◌-◌, ◌<◌, ◌≤◌, ◌⊎◌, inl, inr, Bool, true, false, List, [], ◌∷◌, ◌++◌, length, Some, None, refl, sym, ap, subst, ◌∙◌, arith, add-zero}
+use Rattle.std.proofs.Common.{◌≡◌, ℕ, zero, suc, ◌+◌, ◌-◌, ◌<◌, ◌≤◌, ◌⊎◌, inl, inr, false, List, [], ◌∷◌, ◌++◌, length, Some, refl, sym, ap, subst, ◌∙◌, arith, add-zero}
 use Rattle.std.specs.Prelude.{slice_get}
 use Rattle.std.proofs.lemmas.List.{length_push}
-use Rattle.std.proofs.lemmas.Bool.{cases_eq}
 use Rattle.fleet_base.specs.declared.grid.Cell.{Cell}
 use Rattle.fleet_base.specs.declared.request.Request.{Request}
-use Rattle.fleet_base.specs.declared.request.Live.{Live}
 use Rattle.fleet_base.specs.Terrain.{Terrain, IsOpen}
 use Rattle.fleet_base.specs.TimedWalk.{TimedWalk, position, arrival, IsStep}
-use Rattle.fleet_base.specs.Planned.{IsWalkOf, IsFree, NoneBefore, NoneFree}
-use Rattle.fleet_base.specs.Traffic.{Traffic, IsFreeIn, traffic_of}
-use Rattle.fleet_base.specs.Reach.{reaching, IsReachable, IsClearStep, Reached, begin, step, MayEnd, IsArrival}
-use Rattle.fleet_base.proofs.TrafficLemmas.{free_in_traffic}
-use Rattle.fleet_base.proofs.WalkLemmas.{nat_cases, position_within, position_early, position_over, stood_since, stood_until, stood_before, some_cells}
+use Rattle.fleet_base.specs.Planned.{IsWalkOf}
+use Rattle.fleet_base.specs.Traffic.{Traffic, IsFreeIn}
+use Rattle.fleet_base.specs.Reach.{reaching, IsReachable, IsClearStep, Reached, begin, step}
+use Rattle.fleet_base.proofs.WalkLemmas.{nat_cases, position_within, position_early, stood_since, stood_until, stood_before, some_cells}
 
 -- From whole walks to steps.
 module _ (g : Terrain) (horizon : ℕ) (q : Request) (traffic : Traffic) (w : TimedWalk) (walk : IsWalkOf g horizon q w) (free : IsFreeIn traffic w) where

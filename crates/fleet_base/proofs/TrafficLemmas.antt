@@ -1,6 +1,6 @@
 -- Free in a book is free in the traffic of the book.
-use Rattle.std.proofs.Common.{◌≡◌, ◌≢◌, ℕ, ◌+◌, ◌<◌, ◌⊎◌, inl, inr, Bool, true, false, List, length, Option, Some, None, refl, sym, ap, ◌∙◌, get_or}
-use Rattle.std.specs.Prelude.{◌==◌, ◌&&◌, All}
+use Rattle.std.proofs.Common.{◌≡◌, ◌≢◌, ℕ, ◌+◌, ◌<◌, inl, inr, Bool, true, false, List, length, Option, Some, None, refl, ap, get_or}
+use Rattle.std.specs.Prelude.{◌&&◌}
 use Rattle.std.specs.List.{list_any}
 use Rattle.std.proofs.lemmas.List.Elements.{All-weaker}
 use Rattle.std.proofs.lemmas.List.Folds.{list_any_none, list_any_at}
@@ -9,7 +9,7 @@ use Rattle.fleet_base.specs.declared.grid.Cell.{Cell}
 use Rattle.fleet_base.specs.declared.request.Live.{Live}
 use Rattle.fleet_base.specs.TimedWalk.{TimedWalk, position, MeetAt, Meet}
 use Rattle.fleet_base.specs.Planned.{IsClearOf, IsFree}
-use Rattle.fleet_base.specs.Traffic.{Traffic, IsFreeIn, is_on, traffic_of}
+use Rattle.fleet_base.specs.Traffic.{IsFreeIn, is_on, traffic_of}
 
 pub not_true : (b : Bool) → (b ≡ true → ⊥) → b ≡ false
 not_true true h = absurd (h refl)

@@ -4,7 +4,7 @@ use Rattle.std.proofs.lemmas.Option.{slice_get_past, slice_get_cases}
 use Rattle.std.proofs.lemmas.Bool.Decides.{nat_tests, leb_tells}
 use Rattle.std.specs.Prelude.{slice_get, min, if◌then◌else◌}
 use Rattle.fleet_base.specs.declared.grid.Cell.{Cell}
-use Rattle.fleet_base.specs.TimedWalk.{TimedWalk, arrival, place_after, position, MeetAt, Meet}
+use Rattle.fleet_base.specs.TimedWalk.{TimedWalk, place_after, position, MeetAt, Meet}
 
 pub nat_cases : (a b : ℕ) → (a < b) ⊎ (b ≤ a)
 nat_cases a b = elim (leb_tells b a) [ inl e ↦ inr e.1 | inr e ↦ inl e.1 ]

@@ -6,7 +6,7 @@ use Rattle.fleet_base.specs.declared.grid.Cell.{Cell}
 use Rattle.fleet_base.specs.declared.grid.Side.{Side}
 use Rattle.fleet_base.specs.declared.grid.Side.TheVariants.{Up, Left, Right, Down}
 use Rattle.fleet_base.specs.declared.request.Request.{Request}
-use Rattle.fleet_base.specs.Terrain.{Terrain, IsOpen, IsBeside}
+use Rattle.fleet_base.specs.Terrain.{Terrain, IsBeside}
 use Rattle.fleet_base.specs.TimedWalk.{TimedWalk, arrival}
 use Rattle.fleet_base.specs.Traffic.{Traffic}
 use Rattle.fleet_base.specs.Reach.{IsReachable, IsClearStep, IsArrival}

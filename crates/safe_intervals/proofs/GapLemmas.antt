@@ -1,5 +1,5 @@
 -- The gaps between records in order: one after another, and the first one after a time.
-use Rattle.std.proofs.Common.{arith, subst, sym, ap, ◌∙◌, refl, inl, inr, get_or, drop, length, add-one, drop-cons}
+use Rattle.std.proofs.Common.{arith, subst, sym, ◌∙◌, refl, inl, inr, get_or, drop, length, add-one, drop-cons}
 use Rattle.std.proofs.lemmas.Bool.{cases_lt, ltb-true, ltb-false}
 use Rattle.std.proofs.lemmas.List.Folds.{list_any_at}
 use Rattle.std.specs.Prelude.{◌≡◌, ◌≢◌, ℕ, zero, suc, ◌+◌, ◌-◌, ◌<◌, ◌≤◌, ◌⊎◌, ◌||◌, min, nat_lt, Bool, true, false, List, [], ◌∷◌, Option, Some, None, if◌then◌else◌}
@@ -7,9 +7,9 @@ use Rattle.fleet_base.specs.declared.request.Record.{Record}
 use Rattle.fleet_base.specs.declared.request.TheConstants.{FOREVER}
 use Rattle.calendars.specs.Records.{covers, holds_time, InOrderFrom, InOrder}
 use Rattle.calendars.specs.Places.{place_in}
-use Rattle.calendars.proofs.RecordLemmas.{holds_from, held_not_after, covers_first, covers_past, below_uncovered, lower}
+use Rattle.calendars.proofs.RecordLemmas.{holds_from, held_not_after, covers_first, covers_past, below_uncovered}
 use Rattle.safe_intervals.specs.declared.interval.Interval.{Interval}
-use Rattle.safe_intervals.specs.Safe.{IsIn, IsSafeInterval, IsNextGap, NoneSafeFrom, AnswersGap, IsFirstGap, LeavesFirst}
+use Rattle.safe_intervals.specs.Safe.{NoneSafeFrom, AnswersGap, IsFirstGap, LeavesFirst}
 
 or_second : (x y : Bool) → y ≡ true → (x || y) ≡ true
 or_second true y e = refl

@@ -1,6 +1,6 @@
 -- What a search asks of safe intervals: the one of a free time is unique, and so is the whole list; two free times lie in
 -- one of them exactly where nobody comes between.
-use Rattle.std.proofs.Common.{arith, ap, ◌∙◌, sym, subst, inl, inr, refl, ◌⊎◌, length, get_or}
+use Rattle.std.proofs.Common.{arith, ap, ◌∙◌, sym, subst, inl, inr, refl, ◌⊎◌, get_or}
 use Rattle.std.proofs.lemmas.Bool.{cases_lt}
 use Rattle.std.specs.Prelude.{◌≡◌, ℕ, zero, suc, ◌+◌, ◌-◌, ◌<◌, ◌≤◌, true, false, List, [], ◌∷◌, All, AllPairs}
 use Rattle.std.specs.List.{Any}

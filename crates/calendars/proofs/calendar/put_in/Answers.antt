@@ -1,9 +1,8 @@
-use Rattle.std.proofs.Common.{◌≡◌, length, vec_len, arith}
+use Rattle.std.proofs.Common.{◌≡◌}
 use Rattle.std.specs.List.{insert}
-use Rattle.fleet_base.specs.declared.request.Record.{Record}
 use Rattle.calendars.specs.Places.{place_in}
 use Rattle.calendars.specs.Records.{with_record}
-use Rattle.calendars.proofs.PlaceLemmas.{place_within, insert-place_in}
+use Rattle.calendars.proofs.PlaceLemmas.{insert-place_in}
 use Rattle.calendars.proofs.calendar.put_in.Goals as goal
 
 pub returns-in-Ok-clause-ok : goal.returns-in-Ok-clause-ok

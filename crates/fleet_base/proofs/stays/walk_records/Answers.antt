@@ -1,4 +1,4 @@
-use Rattle.std.proofs.Common.{◌+◌, ◌-◌, refl, arith, ap, ◌∙◌, Some}
+use Rattle.std.proofs.Common.{◌-◌, refl, arith, ap, ◌∙◌, Some}
 use Rattle.fleet_base.proofs.StayLemmas.{same_cell, other_cell, all_stays, cells_differ, cells_same}
 use Rattle.fleet_base.proofs.stays.walk_records.Goals as goal
 use Rattle.fleet_base.proofs.stays.walk_records.Goals.{then-ne+in_ok-push, else-ne}

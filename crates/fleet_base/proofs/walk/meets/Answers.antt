@@ -1,6 +1,5 @@
-use Rattle.std.proofs.Common.{◌≡◌, ℕ, ◌+◌, ◌-◌, true, false, inl, inr, arith, below_more}
-use Rattle.fleet_base.specs.TimedWalk.{MeetAt}
-use Rattle.fleet_base.proofs.WalkLemmas.{nat_cases, position_early, no_meeting_nowhere, met_by}
+use Rattle.std.proofs.Common.{◌≡◌, ◌+◌, ◌-◌, true, false, inl, inr, arith, below_more}
+use Rattle.fleet_base.proofs.WalkLemmas.{nat_cases, met_by}
 use Rattle.fleet_base.proofs.walk.meets.Goals as goal
 
 pub loop-time-preserved : goal.loop-time-preserved

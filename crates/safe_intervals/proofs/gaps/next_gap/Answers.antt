@@ -1,6 +1,4 @@
-use Rattle.std.proofs.Common.{◌+◌, ◌-◌, drop, length, take, get_or}
 use Rattle.std.proofs.lemmas.List.{take_rest}
-use Rattle.safe_intervals.specs.Safe.{LeavesFirst}
 use Rattle.safe_intervals.proofs.GapLemmas.{found_place, found_past, found_start, next_from_place}
 use Rattle.safe_intervals.proofs.gaps.next_gap.Goals as goal
 

@@ -1,8 +1,7 @@
-use Rattle.std.proofs.Common.{◌≡◌, ◌-◌, ap, rules, arith}
-use Rattle.std.specs.Prelude.{nat_le, Some}
+use Rattle.std.proofs.Common.{rules, arith}
+use Rattle.std.specs.Prelude.{nat_le}
 use Rattle.std.proofs.lemmas.List.Sorted.{IsPartitionPoint-from_clause}
-use Rattle.safe_intervals.specs.Safe.{FindsTime}
-use Rattle.safe_intervals.proofs.ListLemmas.{IsPoint, begun_first, none_begun, found_in_last, none_holds}
+use Rattle.safe_intervals.proofs.ListLemmas.{begun_first, none_begun, found_in_last, none_holds}
 use Rattle.safe_intervals.proofs.interval.interval_at.Goals as goal
 
 pub returns-in_err-place : goal.returns-in_err-place
