@@ -1,0 +1,88 @@
+ghost use Rattle.std.specs.Prelude.{◌≡◌, ◌<◌, ◌≤◌, Some, None, [], ◌∷◌, ◌++◌, length, slice_get, slice_set, IfOk, IfSome, IfNone, OnOk, OnErr};
+
+use crate::buckets::Buckets;
+use std::alloc::{AllocError, Global};
+use std::marker::Model;
+
+/// A queue of ids by keys from 0 to a bound, for keys that never fall below the one taken last.
+#[derive(Drop)]
+pub struct BucketQueue {
+    buckets: Buckets,
+    // The least key that an id may have.
+    floor: usize,
+}
+
+impl Model for BucketQueue {
+    ghost use Rattle.std.specs.Prelude.{◌-◌, length};
+    ghost use Rattle.bucket_queue.specs.Queue.{Queue};
+
+    ghost Value = { Queue };
+
+    ghost use Rattle.bucket_queue.specs.Pairing.{IsQueue, keys_of};
+
+    ghost view = { λ q. record { keys = keys_of q.buckets; floor = q.floor; bound = length q.buckets.by_key.items - 1 } };
+
+    ghost invariant = { λ q. IsQueue q.buckets q.floor };
+}
+
+impl BucketQueue {
+    ghost use Rattle.bucket_queue.specs.Queue.{TakesLeast, TakesNone};
+
+    /// A queue for keys up to `bound`, with no ids yet.
+    pub fn new(alloc: Global, bound: u32) -> Result<BucketQueue, AllocError>
+        ensures { IfOk result (λ q. q ≡ record { keys = []; floor = 0; bound = bound }) }
+    {
+        let count = bound as usize + 1;
+        let mut by_key = Vec::with_capacity(alloc, count)?;
+        for _ in 0..count {
+            by_key.push(Vec::new(alloc))?;
+        }
+        Ok(BucketQueue {
+            buckets: Buckets {
+                by_key,
+                spots: Vec::new(alloc),
+            },
+            floor: 0,
+        })
+    }
+
+    /// One id more, the next number. It isn't queued.
+    pub fn add(&mut self) -> Result<(), AllocError>
+        ensures ok { OnOk result (self.new ≡ record self.old { keys = self.old.keys ++ None ∷ [] }) }
+        ensures err { OnErr result (self.new ≡ self.old) }
+    {
+        self.buckets.spots.push(None)?;
+        Ok(())
+    }
+
+    /// The key of an id, or none where it isn't queued.
+    pub fn key_of(&self, id: usize) -> Option<u32>
+        requires { id < length self.now.keys }
+        ensures { slice_get self.now.keys id ≡ Some result }
+    {
+        self.buckets.spots[id].map(|spot| spot.key)
+    }
+
+    /// Queues an id with that key, or moves it there from the key that it has.
+    pub fn put(&mut self, id: usize, key: u32) -> Result<(), AllocError>
+        requires known { id < length self.old.keys }
+        requires low { self.old.floor ≤ key }
+        requires high { key ≤ self.old.bound }
+        ensures ok { OnOk result (self.new ≡ record self.old { keys = slice_set self.old.keys id (Some key) }) }
+        ensures err { OnErr result (self.new ≡ self.old) }
+    {
+        self.buckets.put(id, key)
+    }
+
+    /// Takes an id of the least key, or none where that key is above the limit. Of several it takes any one.
+    pub fn take(&mut self, limit: u32) -> Option<usize>
+        ensures some { IfSome result (λ id. TakesLeast self.old self.new limit id) }
+        ensures none { IfNone result (TakesNone self.old self.new limit) }
+    {
+        let end = self.buckets.by_key.len().min(limit as usize + 1);
+        let key = self.buckets.first_filled(self.floor, end)?;
+        let id = self.buckets.pop(key);
+        self.floor = key;
+        Some(id)
+    }
+}
