@@ -1,8 +1,8 @@
 -- A queue's invariant after each call.
-use Rattle.std.proofs.Common.{◌≡◌, ℕ, ◌-◌, ◌<◌, ◌≤◌, ◌⊎◌, inl, inr, List, [], ◌∷◌, ◌++◌, Some, None, length, set, refl, sym, ap, ◌∙◌, arith, length-append}
+use Rattle.std.proofs.Common.{◌≡◌, ℕ, ◌-◌, ◌<◌, ◌≤◌, ◌⊎◌, inl, inr, List, [], ◌∷◌, ◌++◌, Option, Some, None, length, set, refl, sym, ap, ◌∙◌, arith, length-append}
 use Rattle.std.proofs.lemmas.Bool.{cases_lt}
 use Rattle.std.proofs.lemmas.Option.{slice_get_within, same_Some, none-some}
-use Rattle.std.specs.Prelude.{slice_get, Vec}
+use Rattle.std.specs.Prelude.{slice_get, Vec, IfSome}
 use Rattle.std.specs.Global.{Global}
 use Rattle.bucket_queue.specs.declared.buckets.Buckets.{Buckets}
 use Rattle.bucket_queue.specs.declared.buckets.Spot.{Spot}
@@ -114,5 +114,15 @@ takes_least b next floor end key limit id is first low count keys has = record {
   in_limit = low;
   least = least_key b floor end key is first;
   rises = first.since;
+  in_bound = (let lt : key < length b.by_key.items = slice_get_within _ _ _ first.filled.at_key in omega arith);
   taken = rw (keys, count) refl;
 }
+
+-- each key is from the floor to the bound
+pub in_range : (b : Buckets) (floor id : ℕ) (o : Option ℕ) → IsQueue b floor → slice_get (keys_of b) id ≡ Some o
+    → IfSome o (λ key. (floor ≤ key) × (key ≤ length b.by_key.items - 1))
+in_range b floor id None is at = tt
+in_range b floor id (Some key) is has =
+    let there = stands_from_key b.by_key.items b.spots.items id key is.paired has in
+    let lt : key < length b.by_key.items = slice_get_within b.by_key.items key there.1.bucket there.1.at_key in
+    (is.low id key has, omega arith)

@@ -18,6 +18,7 @@ pub record TakesLeast (q next : Queue) (limit id : ℕ) : Type 0 where
   pub in_limit : key ≤ limit
   pub least : (other k : ℕ) → HasKey q.keys other k → key ≤ k
   pub rises : q.floor ≤ key
+  pub in_bound : key ≤ q.bound
   pub taken : next ≡ record { keys = slice_set q.keys id None; floor = key; bound = q.bound }
 
 -- nothing is taken, since each queued key is above the limit

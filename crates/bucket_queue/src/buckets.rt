@@ -20,6 +20,13 @@ impl Buckets {
     ghost use Rattle.bucket_queue.specs.Pairing.{IsPaired, IsFull, IsFilledAt, IsFirstFilled, IsEmptyAt, keys_of};
     ghost use Rattle.bucket_queue.specs.Queue.{HasKey};
 
+    pub(crate) fn key_of(&self, id: usize) -> Option<u32>
+        requires { id < length self.now.spots.items }
+        ensures { slice_get (keys_of self.now) id ≡ Some result }
+    {
+        self.spots[id].map(|spot| spot.key)
+    }
+
     // Gives an id that key, whether it has one or not.
     pub(crate) fn put(&mut self, id: usize, key: u32) -> Result<(), AllocError>
         requires paired { IsPaired self.old }

@@ -58,9 +58,10 @@ impl BucketQueue {
     /// The key of an id, or none where it isn't queued.
     pub fn key_of(&self, id: usize) -> Option<u32>
         requires { id < length self.now.keys }
-        ensures { slice_get self.now.keys id ≡ Some result }
+        ensures value { slice_get self.now.keys id ≡ Some result }
+        ensures range { IfSome result (λ key. (self.now.floor ≤ key) × (key ≤ self.now.bound)) }
     {
-        self.buckets.spots[id].map(|spot| spot.key)
+        self.buckets.key_of(id)
     }
 
     /// Queues an id with that key, or moves it there from the key that it has.

@@ -1,21 +1,31 @@
 use super::*;
+use std::alloc::{AllocError, Global};
 
-// An id is taken at the key that it was moved to, none is taken above the limit, and a floor that rose holds for the ids that come later.
+// Three ids, of which the first is moved from the greatest key to a lesser one.
+fn three_ids(alloc: Global) -> Result<BucketQueue, AllocError> {
+    let mut queue = BucketQueue::new(alloc, 9)?;
+    queue.add()?;
+    queue.add()?;
+    queue.add()?;
+    queue.put(0, 7)?;
+    queue.put(1, 2)?;
+    queue.put(2, 6)?;
+    queue.put(0, 3)?;
+    Ok(queue)
+}
+
 #[test]
 fn takes_in_rising_order(rt: HostRuntime) {
-    let mut queue = BucketQueue::new(rt.alloc(), 9).unwrap();
-    for _ in 0..4 {
-        queue.add().unwrap();
-    }
-    queue.put(0, 7).unwrap();
-    queue.put(1, 2).unwrap();
-    queue.put(2, 7).unwrap();
-    queue.put(0, 3).unwrap();
-    assert_eq!(rt; queue.take(1), None);
-    assert_eq!(rt; queue.take(9), Some(1));
-    queue.put(3, 2).unwrap();
-    queue.put(1, 9).unwrap();
-    for wanted in [Some(3), Some(0), Some(2), Some(1), None] {
-        assert_eq!(rt; queue.take(9), wanted);
+    let mut queue = three_ids(rt.alloc()).expect(&rt, "memory");
+    let table = [
+        (1, None),
+        (2, Some(1)),
+        (9, Some(0)),
+        (5, None),
+        (u32::MAX, Some(2)),
+        (9, None),
+    ];
+    for (limit, wanted) in table {
+        assert_eq!(rt; queue.take(limit), wanted, "up to {limit}");
     }
 }
