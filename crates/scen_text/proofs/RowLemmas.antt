@@ -1,12 +1,15 @@
 -- Reading rows one after the other, as a loop does.
-use Rattle.std.proofs.Common.{◌≡◌, ℕ, ◌+◌, Bool, true, false, cond, List, [], ◌∷◌, ◌++◌, Option, Result, Ok, Err, refl, sym, ap, ◌∙◌, append_assoc}
-use Rattle.std.proofs.lemmas.List.{append-nil}
+use Rattle.std.proofs.Common.{◌≡◌, ℕ, ◌+◌, ◌<◌, ◌≤◌, Bool, true, false, cond, List, [], ◌∷◌, ◌++◌, length, Option, Some, None, Result, Ok, Err, refl, sym, ap, ◌∙◌, append_assoc, arith}
+use Rattle.std.specs.Prelude.{All, IfSome, IsNone}
+use Rattle.std.proofs.lemmas.Bool.{ltb-true}
+use Rattle.std.proofs.lemmas.List.{append-nil, length-append}
+use Rattle.std.proofs.lemmas.List.Elements.{All-push}
 use Rattle.fleet_base.specs.declared.request.Request.{Request}
 use Rattle.fleet_base.specs.Terrain.{Terrain}
 use Rattle.text_lines.specs.Numbered.{Numbered}
 use Rattle.text_lines.specs.Faults.{Fault, ◌>>=◌}
 use Rattle.scen_text.specs.declared.fault.ScenKind.{ScenKind}
-use Rattle.scen_text.specs.ScenGrammar.{next_row, is_kept, rows_from}
+use Rattle.scen_text.specs.ScenGrammar.{IsOnGrid, next_row, is_kept, rows_from}
 
 -- what was read before, and what is still read
 abbrev pub with_front : List Request → Result (List Request) (Fault ScenKind) → Result (List Request) (Fault ScenKind)
@@ -44,3 +47,25 @@ unfolding rows_from
 is_done g take index rows front total e so_far =
     let one : with_front front (rows_from g take index rows) ≡ Ok front = rw e (ap (λ (requests : List Request). Ok requests) (append-nil front)) in
     sym so_far ∙ one
+
+-- ---- the requests that are kept
+
+-- a row that is kept is one of the first 32,767
+pub kept_room : (take : Option ℕ) (index : ℕ) → IfSome take (λ count. count ≤ 32767) → (IsNone take → index < 32767) → is_kept take index ≡ true → index < 32767
+kept_room None index few room kept = room refl
+kept_room (Some count) index few room kept = let below : index < count = ltb-true _ _ kept in omega (arith, few)
+
+-- no more requests than rows
+pub kept_length : (front : List Request) (request : Request) (kept : Bool) (index : ℕ) → length front ≤ index → length (front ++ cond kept (request ∷ []) []) ≤ index + 1
+kept_length front request true index h = omega (arith, length-append front (request ∷ []))
+kept_length front request false index h = omega (arith, length-append {A = Request} front [])
+
+-- no more than 32,767 requests
+pub kept_few : (front : List Request) (request : Request) (kept : Bool) (index : ℕ) → length front ≤ index → length front ≤ 32767 → (kept ≡ true → index < 32767) → length (front ++ cond kept (request ∷ []) []) ≤ 32767
+kept_few front request true index h few room = let below : index < 32767 = room refl in omega (arith, length-append front (request ∷ []))
+kept_few front request false index h few room = omega (arith, length-append {A = Request} front [])
+
+-- requests on the grid
+pub kept_on_grid : (g : Terrain) (front : List Request) (request : Request) (kept : Bool) → All (IsOnGrid g) front → IsOnGrid g request → All (IsOnGrid g) (front ++ cond kept (request ∷ []) [])
+kept_on_grid g front request true all one = All-push (IsOnGrid g) front request all one
+kept_on_grid g front request false all one = rw (append-nil front) all

@@ -1,5 +1,5 @@
 -- The grammar of a scenario: the requests that its lines give, or their first fault.
-use Rattle.std.specs.Prelude.{ℕ, ◌+◌, Bool, true, false, ◌==◌, ◌&&◌, ◌||◌, nat_lt, if◌then◌else◌, List, [], ◌∷◌, length, codes, Option, Some, None, is_some, Result, Ok, Err}
+use Rattle.std.specs.Prelude.{ℕ, ◌+◌, ◌<◌, Bool, true, false, ◌==◌, ◌&&◌, ◌||◌, nat_lt, if◌then◌else◌, List, [], ◌∷◌, length, codes, Option, Some, None, is_some, Result, Ok, Err}
 use Rattle.std.specs.Option.{ok_or}
 use Rattle.std.specs.Str.{bytes_eq}
 use Rattle.fleet_base.specs.declared.request.Request.{Request}
@@ -39,6 +39,10 @@ row_of g (bucket ∷ map ∷ map_width ∷ map_height ∷ start_x ∷ start_y �
   inside ← need (is_inside g from_x from_y && is_inside g to_x to_y) Outside
   Ok (record { start = cell_at g from_x from_y; goal = cell_at g to_x to_y; depart = 0; stay = false })
 row_of g fields = Err FieldCount
+
+-- the start and the goal are cells of the grid
+abbrev pub IsOnGrid : Terrain → Request → Type 0
+IsOnGrid g request = (request.start.0 < length g.cells) × (request.goal.0 < length g.cells)
 
 -- ---- all rows
 

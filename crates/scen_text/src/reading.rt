@@ -1,9 +1,9 @@
-ghost use Rattle.std.specs.Prelude.{◌≡◌, ◌+◌, ◌<◌, ◌≤◌, ◌^◌, length, IfSome};
+ghost use Rattle.std.specs.Prelude.{◌≡◌, ◌+◌, ◌<◌, ◌≤◌, ◌^◌, length, All, IfSome, IsNone, IfOk, OnOk};
 ghost use Rattle.text_lines.specs.Lines.{lines_of};
 ghost use Rattle.text_lines.specs.Fields.{fields_of};
 ghost use Rattle.text_lines.specs.Numbered.{numbered_from};
-ghost use Rattle.text_lines.specs.Faults.{Gives, at};
-ghost use Rattle.scen_text.specs.ScenGrammar.{next_row, is_kept, rows_from, is_version, scenario_of, fault_of};
+ghost use Rattle.text_lines.specs.Faults.{Gives};
+ghost use Rattle.scen_text.specs.ScenGrammar.{IsOnGrid, next_row, is_kept, rows_from, is_version, scenario_of, fault_of};
 
 use crate::fault::{ScenFault, ScenKind, fault};
 use crate::row::read_row;
@@ -34,7 +34,9 @@ fn is_kept(take: Option<u32>, index: u32) -> bool
 
 // The request of a row before which `index` stand.
 fn next_row(line: &[u8], grid: &Grid, take: Option<u32>, index: u32) -> Result<Request, ScenKind>
-    ensures { result ≡ next_row grid.now take index (fields_of line.now) }
+    ensures row { result ≡ next_row grid.now take index (fields_of line.now) }
+    ensures on_grid { IfOk result (IsOnGrid grid.now) }
+    ensures room { OnOk result (IsNone take → index < 32767) }
 {
     let request = read_row(line, grid)?;
     if take.is_none() && index >= MAX_ROWS {
@@ -51,9 +53,12 @@ fn read_rows(
     grid: &Grid,
     take: Option<u32>,
 ) -> Result<Vec<Request>, ScenFault>
-    requires { before + length text.now < 2 ^ 32 }
-    ensures { Gives fault_of (λ requests. requests.items) result
+    requires size { before + length text.now < 2 ^ 32 }
+    requires few { IfSome take (λ count. count ≤ 32767) }
+    ensures rows { Gives fault_of (λ requests. requests.items) result
         (rows_from grid.now take 0 (numbered_from (before + 1) (lines_of text.now))) }
+    ensures few { IfOk result (λ requests. length requests.items ≤ 32767) }
+    ensures on_grid { IfOk result (λ requests. All (IsOnGrid grid.now) requests.items) }
 {
     let mut requests = Vec::new(alloc);
     let mut index = 0;
@@ -88,8 +93,12 @@ pub fn read_scen(
 ) -> Result<Vec<Request>, ScenFault>
     requires size { length text.now + 1 < 2 ^ 32 }
     requires few { IfSome take (λ count. count ≤ 32767) }
-    ensures { Gives fault_of (λ requests. requests.items) result
+    ensures grammar { Gives fault_of (λ requests. requests.items) result
         (scenario_of grid.now take (lines_of text.now)) }
+
+    // What one may do with the requests.
+    ensures few { IfOk result (λ requests. length requests.items ≤ 32767) }
+    ensures on_grid { IfOk result (λ requests. All (IsOnGrid grid.now) requests.items) }
 {
     let Some(first) = next_filled_line(0, text) else {
         return fault(count_lines(text) as u32 + 1, ScenKind::BadVersion);

@@ -1,6 +1,6 @@
-ghost use Rattle.std.specs.Prelude.{◌≡◌, ◌≢◌, ◌∷◌, [], length, MatchOption, ◌&&◌};
+ghost use Rattle.std.specs.Prelude.{◌≡◌, ◌≢◌, ◌∷◌, [], length, MatchOption, IfOk};
 ghost use Rattle.text_lines.specs.Fields.{fields_of};
-ghost use Rattle.scen_text.specs.ScenGrammar.{small_field, is_inside, row_of};
+ghost use Rattle.scen_text.specs.ScenGrammar.{small_field, is_inside, row_of, IsOnGrid};
 
 use crate::fault::ScenKind;
 use fleet_base::{Grid, Request};
@@ -67,7 +67,8 @@ fn is_inside(grid: &Grid, x: u32, y: u32) -> bool
 /// The request of a row: it departs at time 0, and doesn't stay.
 #[tactic(auto, unfolding(crate::specs::ScenGrammar::row_of))]
 pub fn read_row(line: &[u8], grid: &Grid) -> Result<Request, ScenKind>
-    ensures { result ≡ row_of grid.now (fields_of line.now) }
+    ensures row { result ≡ row_of grid.now (fields_of line.now) }
+    ensures on_grid { IfOk result (IsOnGrid grid.now) }
 {
     let Some(row) = nine_fields(line) else {
         return Err(ScenKind::FieldCount);
