@@ -136,8 +136,9 @@ fn many(rt: HostRuntime) -> Result<(), Fail> {
     let grid = Grid::new(1, 1, vec![in rt.alloc(); true; 1]?);
     let text = long_scenario(rt.alloc(), 32768)?;
     let text = text.as_slice();
-    assert!(rt; text.len() == 589834);
-    let less = &text[..589816];
+    assert!(rt; 18 < text.len());
+    assert!(rt; text.len() < 1000000);
+    let less = &text[..text.len() - 18];
     assert_eq!(rt; fault_in(rt.alloc(), text, &grid, None), at(32769, TooMany));
     assert_eq!(rt; read_scen(rt.alloc(), less, &grid, None)?.len(), 32767);
     assert_eq!(rt;
