@@ -12,6 +12,7 @@ abbrev pub request_lanes : ℕ → List Request → List Lane
 request_lanes number [] = []
 request_lanes number (request ∷ requests) = record { first = number; orders = Plan request ∷ [] } ∷ request_lanes (number + 1) requests
 
+-- there is an order, and it is a plan; a park is one too
 abbrev pub is_plan : Option Order → Bool
 is_plan (Some (Plan request)) = true
 is_plan (Some (Cancel target)) = false
@@ -26,7 +27,7 @@ cancels k (Cancel target) = target == k
 unfoldable pub may_cancel : ℕ → List Order → ℕ → Bool
 may_cancel first orders k = nat_le first k && is_plan (slice_get orders (k - first)) && not (list_any (cancels k) orders)
 
--- where the order is a cancel, it may be
+-- where the order is a cancel, it names one that may be cancelled
 abbrev pub MayName : ℕ → List Order → Order → Type 0
 MayName first orders (Plan request) = Unit {0}
 MayName first orders (Cancel target) = may_cancel first orders target ≡ true
@@ -39,6 +40,6 @@ after_lane lane = lane.first + length lane.orders
 abbrev pub with_order : Lane → Order → Lane
 with_order lane order = record { first = lane.first; orders = lane.orders ++ order ∷ [] }
 
--- a lane without orders is dropped
+-- lanes, and one lane more; a lane without orders is dropped
 abbrev pub with_lane : List Lane → Lane → List Lane
 with_lane lanes lane = if length lane.orders == 0 then lanes else lanes ++ lane ∷ []

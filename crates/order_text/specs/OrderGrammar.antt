@@ -28,6 +28,7 @@ fault_of Memory = None
 abbrev pub small_field : List ℕ → Result ℕ OrderKind
 small_field field = ok_or (small (number_of field)) BadNumber
 
+-- a column and a row of the grid
 abbrev pub is_inside : Terrain → ℕ → ℕ → Bool
 is_inside g x y = nat_lt x g.width && nat_lt y g.height
 
@@ -53,6 +54,7 @@ unfoldable pub lane_of : List (List ℕ) → Result Line OrderKind
 lane_of [] = Ok NewLane
 lane_of (field ∷ fields) = Err FieldCount
 
+-- a line by its first field
 unfoldable pub line_of : Terrain → List (List ℕ) → Result Line OrderKind
 line_of g [] = Err BadWord
 line_of g (word ∷ fields) =
@@ -93,6 +95,7 @@ put lanes (Next order) = do
 abbrev pub next_lanes : Terrain → LanesSoFar → List (List ℕ) → Result LanesSoFar OrderKind
 next_lanes g lanes fields = line_of g fields >>= put lanes
 
+-- the lanes of all lines, after those that were read
 unfoldable pub lanes_from : Terrain → LanesSoFar → List Numbered → Result (List Lane) (Fault OrderKind)
 lanes_from g lanes [] = Ok (closed lanes)
 lanes_from g lanes (row ∷ rows) = do

@@ -23,6 +23,7 @@ fault_of Memory = None
 abbrev pub small_field : List ℕ → Result ℕ ScenKind
 small_field field = ok_or (small (number_of field)) BadNumber
 
+-- a column and a row of the grid
 abbrev pub is_inside : Terrain → ℕ → ℕ → Bool
 is_inside g x y = nat_lt x g.width && nat_lt y g.height
 

@@ -82,8 +82,8 @@ fn read_rows(
 /// Reads a scenario: one request for each row, or for each of the first `take` rows.
 ///
 /// The later rows are checked all the same. The answer is the requests, or `ScenFault::At` with the
-/// first line that has a fault. Only want of memory may come in place of either. The text has room
-/// for the number of the line after its last one.
+/// first line that has a fault. Only want of memory may come in place of either. The line after the
+/// last one may be named too, so a text is one byte shorter than the other readers allow.
 #[tactic(auto, unfolding(crate::specs::ScenGrammar::scenario_of))]
 pub fn read_scen(
     alloc: Global,
