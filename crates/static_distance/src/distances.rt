@@ -6,7 +6,7 @@ use std::alloc::Global;
 use std::marker::Model;
 
 /// The least number of moves from each cell of a grid to a goal, over open cells.
-/// It is seen as a list by the cells' numbers, with none where no way leads to the goal.
+/// They are seen as a list by the numbers of the cells, with none where no way leads to the goal.
 #[derive(Drop)]
 pub struct Distances {
     steps: Vec<u32>,
@@ -34,9 +34,7 @@ impl Distances {
         while !flood.is_over() {
             flood.expand(grid)?;
         }
-        Ok(Distances {
-            steps: flood.steps,
-        })
+        Ok(Distances { steps: flood.steps })
     }
 
     /// The distance from a cell to the goal, or none where no way leads there.

@@ -1,7 +1,6 @@
 ghost use Rattle.std.specs.Prelude.{◌≡◌, length, IfOk};
 
 use super::*;
-
 use fleet_base::{Cell, Grid};
 use std::alloc::{AllocError, Global};
 
@@ -44,7 +43,18 @@ fn counts_moves_over_open_cells(rt: HostRuntime) {
         (
             3,
             [
-                none, none, none, Some(0), none, none, none, none, none, none, none, none,
+                none,
+                none,
+                none,
+                Some(0),
+                none,
+                none,
+                none,
+                none,
+                none,
+                none,
+                none,
+                none,
             ],
         ),
         (2, [none; 12]),
@@ -52,7 +62,11 @@ fn counts_moves_over_open_cells(rt: HostRuntime) {
     for (goal, wanted) in table {
         let distances = Distances::new(rt.alloc(), &grid, Cell(goal)).expect(&rt, "memory");
         for cell in 0..12 {
-            assert_eq!(rt; distances.to_goal(Cell(cell)), wanted[cell as usize], "{cell} to {goal}");
+            assert_eq!(rt;
+                distances.to_goal(Cell(cell)),
+                wanted[cell as usize],
+                "{cell} to {goal}"
+            );
         }
     }
 }

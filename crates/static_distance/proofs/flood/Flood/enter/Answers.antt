@@ -1,10 +1,8 @@
-use Rattle.std.proofs.Common.{◌≡◌, ℕ, List, ◌+◌, ◌<◌, length, get_or, slice_set, sym, refl, ap, ◌∙◌, arith}
+use Rattle.std.proofs.Common.{◌≡◌, ℕ, List, ◌<◌, length, get_or, sym, refl, ◌∙◌}
 use Rattle.std.proofs.lemmas.List.{get_or_default}
-use Rattle.std.proofs.lemmas.Option.{slice_get_within}
 use Rattle.fleet_base.specs.declared.grid.Cell.{Cell}
-use Rattle.fleet_base.specs.Terrain.{Terrain}
 use Rattle.static_distance.specs.declared.flood.TheConstants.{UNREACHED}
-use Rattle.static_distance.specs.Flooding.{steps_at, IsFloodFrom}
+use Rattle.static_distance.specs.Flooding.{steps_at}
 use Rattle.static_distance.proofs.FloodLemmas.{one_more, steps_kept, queue_kept, head_within}
 use Rattle.static_distance.proofs.flood.Flood.enter.Goals as goal
 
