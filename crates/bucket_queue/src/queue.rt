@@ -28,7 +28,7 @@ impl Model for BucketQueue {
 impl BucketQueue {
     ghost use Rattle.bucket_queue.specs.Queue.{TakesLeast, TakesNone};
 
-    /// A queue for keys up to `bound`, with no ids yet.
+    /// A queue for keys up to `bound`, with no ids yet. It has one bucket for each key.
     pub fn new(alloc: Global, bound: u32) -> Result<BucketQueue, AllocError>
         ensures { IfOk result (λ q. q ≡ record { keys = []; floor = 0; bound = bound }) }
     {
@@ -76,6 +76,7 @@ impl BucketQueue {
     }
 
     /// Takes an id of the least key, or none where that key is above the limit. Of several it takes any one.
+    /// It allocates nothing.
     pub fn take(&mut self, limit: u32) -> Option<usize>
         ensures some { IfSome result (λ id. TakesLeast self.old self.new limit id) }
         ensures none { IfNone result (TakesNone self.old self.new limit) }
