@@ -1,0 +1,246 @@
+-- Reading back: the neighbour from which a cell was entered, and the walk.
+use Rattle.std.proofs.Common.{arith, subst, sym, ap, ◌∙◌, refl, inl, inr, append_assoc}
+use Rattle.std.proofs.lemmas.Bool.{cases_lt, false≢true}
+use Rattle.std.proofs.lemmas.List.{append-nil, reverse-append, length-append, length-replicate}
+use Rattle.std.proofs.lemmas.Option.{slice_get_within, slice_get_cases, same_Some}
+use Rattle.std.specs.Prelude.{◌≡◌, ◌≢◌, ℕ, zero, suc, ◌+◌, ◌-◌, ◌<◌, ◌≤◌, ◌⊎◌, ◌++◌, ◌∷◌, [], false, true, List, Option, Some, IsSome, length, slice_get, replicate, reverse}
+use Rattle.fleet_base.specs.declared.grid.Cell.{Cell}
+use Rattle.fleet_base.specs.declared.grid.Side.{Side}
+use Rattle.fleet_base.specs.declared.request.Record.{Record}
+use Rattle.fleet_base.specs.declared.request.Request.{Request}
+use Rattle.fleet_base.specs.Terrain.{Terrain, IsBeside}
+use Rattle.fleet_base.specs.Traffic.{Traffic}
+use Rattle.fleet_base.specs.Reach.{begin, step}
+use Rattle.fleet_base.specs.Canonical.{CanPrecede, IsUntaken, IsEarliest, ReadsBack, whole, hop}
+use Rattle.fleet_base.proofs.ReachLemmas.{walk_from_steps, steps_from_walk}
+use Rattle.fleet_base.proofs.CanonicalLemmas.{step_back}
+use Rattle.calendars.specs.Records.{covers, is_exchange}
+use Rattle.calendars.specs.Assignments.{Assignment, traffic_by}
+use Rattle.safe_intervals.specs.Safe.{IsIn, IsSafeInterval}
+use Rattle.static_distance.specs.Distance.{IsDistance}
+use Rattle.sipp_search.specs.declared.states.Spot.{Spot}
+use Rattle.sipp_search.specs.declared.states.State.{State}
+use Rattle.sipp_search.specs.declared.states.Arena.{Arena}
+use Rattle.sipp_search.specs.Marks.{spots_of, final}
+use Rattle.sipp_search.specs.Progress.{IsBound, IsWithin, HasFinal}
+use Rattle.sipp_search.specs.Running.{IsSound, IsOver}
+use Rattle.sipp_search.specs.Back.{IsOn, IsHopFrom, IsHop, ReadsOn}
+use Rattle.sipp_search.proofs.Lists.{stands_map, map_stands}
+use Rattle.sipp_search.proofs.Moves.{IsReached, reached_free, reached_open, wait_until, beside_differs}
+use Rattle.sipp_search.proofs.Moving.{some_of}
+
+-- What the arena tells of a final state.
+module _ (g : Terrain) (q : Request) (horizon : ℕ) (known : ℕ → Option (List Record)) (size : ℕ) (arena : Arena) (sound : IsSound g q horizon known size arena) where
+  spot_stands : (i r : ℕ) (p : Spot) → slice_get arena.states.items i ≡ Some (final p r) → slice_get (spots_of arena.states.items) i ≡ Some p
+  spot_stands i r p at = stands_map (λ (z : State). z.spot) arena.states.items i (final p r) at
+
+  pub final_known : (i r : ℕ) (p : Spot) (c : Cell) → slice_get arena.states.items i ≡ Some (final p r) → p.cell ≡ c → IsSome (known c.0) × (c.0 < size)
+  final_known i r p c at same =
+      let there = sound.arranged.placed i p (spot_stands i r p at) in
+      let block = sound.arranged.block p.cell there.0 there.1 in
+      let number : p.cell.0 ≡ c.0 = ap (λ (z : Cell). z.0) same in
+      let within : p.cell.0 < length arena.firsts.items = slice_get_within arena.firsts.items p.cell.0 (suc there.0) there.1 in
+      (rw (← number) (some_of (known p.cell.0) block.records block.known_is), omega (arith, sound.count))
+
+  -- an untouched cell has no state
+  pub none_untouched : (c : Cell) (t : ℕ) → slice_get arena.firsts.items c.0 ≡ Some 0 → HasFinal arena.states.items c t → ⊥
+  none_untouched c t untouched has =
+      let there = sound.arranged.placed has.place has.spot (spot_stands has.place has.arrival has.spot has.stands) in
+      let here : slice_get arena.firsts.items c.0 ≡ Some (suc there.0) = subst (λ (z : Cell). slice_get arena.firsts.items z.0 ≡ Some (suc there.0)) has.cell_is there.1 in
+      let bad : 0 ≡ suc there.0 = same_Some 0 (suc there.0) (sym untouched ∙ here) in
+      omega arith
+
+  -- none of the block holds the time
+  pub none_in_block : (c : Cell) (t first j : ℕ) → slice_get arena.firsts.items c.0 ≡ Some (suc first) → first ≤ j
+      → ((s : State) → slice_get arena.states.items j ≡ Some s → s.spot.cell ≢ c)
+      → ((i r : ℕ) (p : Spot) → first ≤ i → i < j → slice_get arena.states.items i ≡ Some (final p r) → IsIn t p.interval → r ≤ t → ⊥)
+      → HasFinal arena.states.items c t → ⊥
+  none_in_block c t first j touched run no_more none has =
+      let block = sound.arranged.block c first touched in
+      let alone = block.alone has.place has.spot (spot_stands has.place has.arrival has.spot has.stands) has.cell_is in
+      let place : has.place ≡ first + alone.0 = alone.2 in
+      elim (cases_lt has.place j) [
+        | inl before ↦ none has.place has.arrival has.spot (omega arith) before has.stands has.holds has.early
+        | inr past ↦
+            let e : first + (j - first) ≡ j = omega arith in
+            let within : alone.0 < length block.intervals = slice_get_within block.intervals alone.0 alone.1 alone.3 in
+            elim (slice_get_cases block.intervals (j - first)).1 [
+              | inl there ↦
+                  let spot : Spot = record { cell = c; interval = there.0; left = block.left } in
+                  let stands : slice_get (spots_of arena.states.items) j ≡ Some spot = rw e at (block.each (j - first) there.0 there.2) in
+                  let state = map_stands (λ (z : State). z.spot) arena.states.items j spot stands in
+                  no_more state.0 state.1 (ap (λ (z : Spot). z.cell) state.2)
+              | inr over ↦ omega (arith, over.0)
+            ]
+      ]
+
+-- Once the search is over, final states tell what is reachable.
+module _ (g : Terrain) (q : Request) (horizon : ℕ) (a : Assignment) (bound : IsBound g q.goal) (states : List State) (limit : ℕ) (over : IsOver g q horizon a states limit) where
+  interval_safe : (i r : ℕ) (p : Spot) → slice_get states i ≡ Some (final p r) → IsSafeInterval (a p.cell.0) horizon p.interval
+  interval_safe i r p at = over.spots.safe i p (stands_map (λ (z : State). z.spot) states i (final p r) at)
+
+  pub on_reached : (c : Cell) (t : ℕ) → IsOn states c t → IsReached g q a c t
+  on_reached c t on = subst (λ (z : Cell). IsReached g q a z t) on.cell_is (over.final_well on.place t on.spot on.stands).arrived.reached
+
+  -- the agent can wait until the time
+  pub final_reached : (c : Cell) (u : ℕ) → HasFinal states c u → IsReached g q a c u
+  final_reached c u has =
+      let well = over.final_well has.place has.arrival has.spot has.stands in
+      let safe = interval_safe has.place has.arrival has.spot has.stands in
+      subst (λ (z : Cell). IsReached g q a z u) has.cell_is
+      (wait_until g q a has.spot.cell has.arrival u well.arrived.reached has.early (λ x low high. safe.free x (omega (arith, well.arrived.inside.0), omega (arith, has.holds.1))))
+
+  pub final_earliest : (c : Cell) (u : ℕ) (has : HasFinal states c u) → IsEarliest g (traffic_by a) q c u has.arrival
+  final_earliest c u has =
+      let well = over.final_well has.place has.arrival has.spot has.stands in
+      let safe : IsSafeInterval (a c.0) horizon has.spot.interval = subst (λ (z : Cell). IsSafeInterval (a z.0) horizon has.spot.interval) has.cell_is (interval_safe has.place has.arrival has.spot has.stands) in
+      record {
+        before = has.early;
+        reachable = walk_from_steps g q (traffic_by a) (subst (λ (z : Cell). IsReached g q a z has.arrival) has.cell_is well.arrived.reached);
+        untaken = λ x low high. safe.free x (omega (arith, well.arrived.inside.0), omega (arith, has.holds.1));
+        earliest = λ v le reachable untaken.
+            (let reached : IsReached g q a c v = steps_from_walk g q (traffic_by a) c v reachable in
+            let there : IsReached g q a has.spot.cell v = subst (λ (z : Cell). IsReached g q a z v) (sym has.cell_is) reached in
+            well.least v (record { reached = there; inside = (since safe v le untaken, omega (arith, has.holds.1)) }));
+      }
+    where
+      since : IsSafeInterval (a c.0) horizon has.spot.interval → (v : ℕ) → v ≤ u → IsUntaken (traffic_by a) c v u → has.spot.interval.from ≤ v
+      since safe v le untaken = elim (cases_lt v has.spot.interval.from) [
+        | inr ok ↦ ok
+        | inl early ↦ elim safe.begins [
+          | inl start ↦ absurd (omega arith)
+          | inr edge ↦
+              let free : covers (a c.0) (has.spot.interval.from - 1) ≡ false = untaken (has.spot.interval.from - 1) (omega arith) (omega (arith, has.holds.0)) in
+              absurd (false≢true (sym free ∙ edge.1))
+        ]
+      ]
+
+  pub hop_found : (c n : Cell) (t u : ℕ) (side : Side) → IsOn states c t → t ≡ u + 1 → IsBeside g side c n → (has : HasFinal states n u) → is_exchange (a n.0) (a c.0) u ≡ false
+      → IsHopFrom g q a states c t side n has.arrival
+  hop_found c n t u side on time beside has unbarred = record {
+    before = u;
+    time_is = time;
+    beside = beside;
+    precedes = record {
+      reachable = walk_from_steps g q (traffic_by a) (final_reached n u has);
+      clear = record {
+        untaken = subst (λ (m : ℕ). covers (a c.0) m ≡ false) time (reached_free g q a (on_reached c t on));
+        unbarred = λ differ. unbarred;
+      };
+    };
+    earliest = final_earliest n u has;
+    on = record { place = has.place; spot = has.spot; stands = has.stands; cell_is = has.cell_is };
+  }
+
+  back_beside : (side : Side) (c n : Cell) → IsBeside g side c n → (other : Side) × IsBeside g other n c
+  back_beside side c n beside = elim (step_back g side c n beside) [
+    | inl same ↦ absurd (beside_differs g side c n beside same)
+    | inr found ↦ found
+  ]
+
+  -- a cell that can precede has a final state
+  pub hop_final : (c n : Cell) (t u : ℕ) (side : Side) → IsOn states c t → t ≡ u + 1 → IsBeside g side c n → CanPrecede g (traffic_by a) q n c u → HasFinal states n u
+  hop_final c n t u side on time beside can =
+      let reached : IsReached g q a n u = steps_from_walk g q (traffic_by a) n u can.reachable in
+      let well = over.final_well on.place t on.spot on.stands in
+      let distance : IsDistance g q.goal c on.spot.left =
+      subst (λ (z : Cell). IsDistance g q.goal z on.spot.left) on.cell_is (over.spots.distance on.place on.spot (stands_map (λ (z : State). z.spot) states on.place (final on.spot t) on.stands)) in
+      let back = back_beside side c n beside in
+      let within : IsWithin g q.goal n (on.spot.left + 1) = bound.falls back.0 n c on.spot.left (reached_open g q a reached) back.1 distance in
+      over.complete n u (on.spot.left + 1) reached within (omega (arith, well.before))
+
+  -- a state is entered by a move, unless it is the start at the departure
+  pub record EnteredBy (c : Cell) (t : ℕ) : Type 0 where
+    pub side : Side
+    pub from : Cell
+    pub before : ℕ
+    pub time_is : t ≡ before + 1
+    pub beside : IsBeside g side c from
+    pub precedes : CanPrecede g (traffic_by a) q from c before
+
+  last_step : {c : Cell} {t : ℕ} → IsReached g q a c t → ((u : ℕ) → t ≡ u + 1 → IsReached g q a c u → ⊥) → ((c ≡ q.start) × (t ≡ q.depart)) ⊎ EnteredBy c t
+  last_step (begin opened untaken) not_before = inl (refl, refl)
+  last_step (step {c = n} {d = c} {t = u} before moves opened clear) not_before = elim moves [
+    | inl same ↦ absurd (not_before u refl (subst (λ (z : Cell). IsReached g q a z u) (sym same) before))
+    | inr beside ↦
+        let back = back_beside beside.0 n c beside.1 in
+        inr (record { side = back.0; from = n; before = u; time_is = refl; beside = back.1; precedes = record { reachable = walk_from_steps g q (traffic_by a) before; clear = clear } })
+  ]
+
+  pub entered : (c : Cell) (t : ℕ) → IsOn states c t → ((c ≡ q.start) × (t ≡ q.depart)) ⊎ EnteredBy c t
+  entered c t on = last_step (on_reached c t on) (λ u time reached. earlier u time reached)
+    where
+      earlier : (u : ℕ) → t ≡ u + 1 → IsReached g q a c u → ⊥
+      earlier u time reached =
+          let well = over.final_well on.place t on.spot on.stands in
+          let safe : IsSafeInterval (a c.0) horizon on.spot.interval = subst (λ (z : Cell). IsSafeInterval (a z.0) horizon on.spot.interval) on.cell_is (interval_safe on.place t on.spot on.stands) in
+          elim (cases_lt u on.spot.interval.from) [
+            | inr inside ↦
+                let there : IsReached g q a on.spot.cell u = subst (λ (z : Cell). IsReached g q a z u) (sym on.cell_is) reached in
+                omega (arith, well.least u (record { reached = there; inside = (inside, omega (arith, well.arrived.inside.1)) }))
+            | inl early ↦ elim safe.begins [
+              | inl start ↦ omega arith
+              | inr edge ↦
+                  let e : on.spot.interval.from - 1 ≡ u = omega (arith, well.arrived.inside.0) in
+                  let taken : covers (a c.0) u ≡ true = rw e at edge.1 in
+                  false≢true (sym (reached_free g q a reached) ∙ taken)
+            ]
+          ]
+
+  -- where no side leads back, the start is reached
+  pub at_start : (c : Cell) (t : ℕ) → IsOn states c t → ((side : Side) (n : Cell) (u : ℕ) → IsBeside g side c n → t ≡ u + 1 → ¬ (CanPrecede g (traffic_by a) q n c u))
+      → (c ≡ q.start) × (t ≡ q.depart)
+  at_start c t on none = elim (entered c t on) [
+    | inl start ↦ start
+    | inr by ↦ absurd (none by.side by.from by.before by.beside by.time_is by.precedes)
+  ]
+
+-- The cells that are read back.
+module _ (g : Terrain) (q : Request) (a : Assignment) (arrival : ℕ) where
+  pub reads_nothing : (cells : List Cell) → cells ≡ [] → ReadsOn g q a arrival q.goal arrival (reverse cells)
+  reads_nothing cells e front back = rw e (rw append-nil back)
+
+  pub reads_step : (c n : Cell) (t s k : ℕ) (rest : List Cell) (states : List State) → ReadsOn g q a arrival c t rest → IsHop g q a states c t n s → k ≡ t - 1 - s
+      → ReadsOn g q a arrival n s (replicate k n ++ c ∷ rest)
+  reads_step c n t s k rest states reads h k_is front back =
+      let u = h.before in
+      let count : k ≡ u - s = omega (arith, h.time_is) in
+      let more : ReadsBack g (traffic_by a) q c t (front ++ replicate (u - s) n ++ c ∷ []) =
+      subst (λ (m : ℕ). ReadsBack g (traffic_by a) q c m (front ++ replicate (u - s) n ++ c ∷ [])) (sym h.time_is) (hop h.first h.earliest back) in
+      let same : (front ++ replicate (u - s) n ++ c ∷ []) ++ rest ≡ front ++ (replicate k n ++ c ∷ rest) =
+      rw count (append_assoc (front ++ replicate (u - s) n) (c ∷ []) rest ∙ append_assoc front (replicate (u - s) n) (c ∷ rest)) in
+      rw same at (reads (front ++ replicate (u - s) n ++ c ∷ []) more)
+
+  pub reads_done : (c : Cell) (t : ℕ) (cells cells' : List Cell) → ReadsOn g q a arrival c t (reverse cells) → c ≡ q.start → t ≡ q.depart → cells' ≡ cells ++ c ∷ []
+      → ReadsBack g (traffic_by a) q q.goal arrival (reverse cells')
+  reads_done c t cells cells' reads start depart is =
+      let here : ReadsBack g (traffic_by a) q c t (c ∷ []) =
+      subst (λ (m : ℕ). ReadsBack g (traffic_by a) q c m (c ∷ [])) (sym depart) (subst (λ (z : Cell). ReadsBack g (traffic_by a) q z q.depart (z ∷ [])) (sym start) whole) in
+      let same : (c ∷ []) ++ reverse cells ≡ reverse cells' = sym (ap reverse is ∙ reverse-append cells (c ∷ [])) in
+      rw same at (reads (c ∷ []) here)
+
+pub replicate-push : {X : Type 0} (k : ℕ) (x : X) → replicate k x ++ x ∷ [] ≡ x ∷ replicate k x
+replicate-push zero x = refl
+replicate-push (suc k) x = ap (λ xs. x ∷ xs) (replicate-push k x)
+
+reverse-replicate : {X : Type 0} (k : ℕ) (x : X) → reverse (replicate k x) ≡ replicate k x
+reverse-replicate zero x = refl
+reverse-replicate (suc k) x = reverse-append (x ∷ []) (replicate k x) ∙ (ap (λ xs. xs ++ x ∷ []) (reverse-replicate k x) ∙ replicate-push k x)
+
+-- the cells after one hop
+pub hop_cells : (cells cells' cells'' : List Cell) (c n : Cell) (k : ℕ) → cells' ≡ cells ++ c ∷ [] → cells'' ≡ cells' ++ replicate k n
+    → replicate k n ++ c ∷ reverse cells ≡ reverse cells''
+hop_cells cells cells' cells'' c n k one two =
+    sym (ap reverse (two ∙ ap (λ (xs : List Cell). xs ++ replicate k n) one)
+    ∙ (reverse-append (cells ++ c ∷ []) (replicate k n)
+    ∙ (ap (λ (xs : List Cell). xs ++ reverse (cells ++ c ∷ [])) (reverse-replicate k n)
+    ∙ ap (λ (xs : List Cell). replicate k n ++ xs) (reverse-append cells (c ∷ [])))))
+
+-- one cell is read back for each time
+pub reads_length : (g : Terrain) (traffic : Traffic) (q : Request) {c : Cell} {t : ℕ} {cells : List Cell} → ReadsBack g traffic q c t cells → (length cells + q.depart ≡ t + 1) × (1 ≤ length cells)
+reads_length g traffic q whole = (omega arith, omega arith)
+reads_length g traffic q (hop {n} {c} {s} {t} {cells} first earliest front) =
+    let before = reads_length g traffic q front in
+    let all : length (cells ++ replicate (t - s) n ++ c ∷ []) ≡ length cells + (t - s) + 1 =
+    length-append (cells ++ replicate (t - s) n) (c ∷ []) ∙ ap (λ m. m + 1) (length-append cells (replicate (t - s) n) ∙ ap (λ m. length cells + m) (length-replicate (t - s) n)) in
+    (omega (arith, before.0, earliest.before), omega arith)

@@ -1,0 +1,13 @@
+pub mod Lists
+pub mod Moves
+pub mod Closing
+pub mod Marking
+pub mod Exchanges
+pub mod Blocks
+pub mod Visits
+pub mod Moving
+pub mod Staying
+pub mod Ending
+pub mod Backward
+pub mod Beginning
+pub mod Answering

@@ -1,0 +1,25 @@
+use Rattle.std.proofs.Common.{◌≡◌, ℕ, ◌≤◌, ◌-◌, ◌+◌, ◌^◌, Some}
+use Rattle.std.specs.Prelude.{unwrap_or}
+use Rattle.calendars.specs.Assignments.{Assignment, Agrees}
+use Rattle.sipp_search.specs.Marks.{final_count}
+use Rattle.sipp_search.specs.Progress.{IsUnderWay}
+use Rattle.sipp_search.specs.Running.{IsSound, KeepsKnown, Ends, LoadsFor}
+use Rattle.sipp_search.proofs.run.run.Given as goal
+
+abbrev pub invariant-loop-taken : goal.invariant-loop-taken
+invariant-loop-taken g l = record {
+  cells : g.V.CalendarView.size l.view ≡ g.V.CalendarView.size l.initial.view;
+  went : g.V.CalendarView.went l.initial.view l.view;
+  kept : KeepsKnown (g.V.CalendarView.known l.initial.view) (g.V.CalendarView.known l.view);
+  sound : IsSound l.task.grid.now l.task.request l.task.horizon (g.V.CalendarView.known l.view) (g.V.CalendarView.size l.view) l.arena;
+  low : l.arena.queue.floor ≤ unwrap_or l.found l.task.horizon;
+  in_time : unwrap_or l.found l.task.horizon ≤ l.task.horizon;
+  reached : (t : ℕ) → l.found ≡ Some t → t ≤ l.arena.queue.floor;
+  count : l.steps ≡ l.initial.steps + final_count l.arena.states.items;
+  way : (a : Assignment) (x : ℕ) → Agrees a (g.V.CalendarView.known l.view) → IsUnderWay l.task.grid.now l.task.request l.task.horizon a l.arena.states.items l.arena.queue.floor x;
+  ends : (a : Assignment) → Agrees a (g.V.CalendarView.known l.view) → Ends l.task.request a l.arena.states.items l.found;
+  loads : LoadsFor l.task.grid.now (g.V.CalendarView.known l.initial.view) (g.V.CalendarView.known l.view) l.arena.states.items;
+}
+
+abbrev pub decreases-loop-taken : goal.decreases-loop-taken
+decreases-loop-taken g l = 2 ^ 64 - final_count l.arena.states.items

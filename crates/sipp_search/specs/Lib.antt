@@ -1,0 +1,9 @@
+pub mod Answer
+pub mod Marks
+pub mod Progress
+pub mod Entry
+pub mod Visiting
+pub mod Arena
+pub mod Running
+pub mod Back
+pub mod Tabled

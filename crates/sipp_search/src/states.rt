@@ -1,0 +1,43 @@
+use bucket_queue::BucketQueue;
+use fleet_base::Cell;
+use safe_intervals::Interval;
+
+/// A cell, one of its safe intervals, and the static distance from the cell to the goal.
+#[derive(Clone, Copy)]
+pub struct Spot {
+    pub cell: Cell,
+    pub interval: Interval,
+    pub left: u32,
+}
+
+/// How far the search has come with a spot, and the arrival there that it knows.
+#[derive(Clone, Copy)]
+pub enum Mark {
+    Unseen,
+    Queued(u32),
+    // Its arrival is the least one.
+    Final(u32),
+}
+
+#[derive(Clone, Copy)]
+pub struct State {
+    pub spot: Spot,
+    pub mark: Mark,
+}
+
+// The states of the touched cells. Those of a cell stand side by side; `firsts` has 1 plus the place of its first one,
+// by the cell's number, and 0 where the cell isn't touched. The queue's ids are the places.
+#[derive(Drop)]
+pub struct Arena {
+    pub states: Vec<State>,
+    pub firsts: Vec<usize>,
+    pub queue: BucketQueue,
+}
+
+// A state that was taken from the queue, and its arrival.
+#[derive(Clone, Copy)]
+pub struct Taken {
+    pub id: usize,
+    pub spot: Spot,
+    pub arrival: u32,
+}

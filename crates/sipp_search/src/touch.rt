@@ -1,0 +1,123 @@
+ghost use Rattle.std.specs.Prelude.{◌≡◌, ◌≢◌, ℕ, suc, ◌+◌, ◌<◌, ◌≤◌, ◌++◌, ◌∷◌, [], List, Option, Some, None, IsSome, OnOk, IfOk, IfSome, IfNone, length, slice_get};
+ghost use Rattle.fleet_base.specs.declared.grid.Cell.{Cell as ACell};
+ghost use Rattle.fleet_base.specs.Terrain.{Terrain};
+ghost use Rattle.safe_intervals.specs.declared.interval.Interval.{Interval as AnInterval};
+ghost use Rattle.safe_intervals.specs.Safe.{AreSafeIntervals};
+ghost use Rattle.static_distance.specs.Distance.{IsDistance};
+ghost use Rattle.sipp_search.specs.Marks.{spots_of, keys_of, unseen};
+ghost use Rattle.sipp_search.specs.Arena.{states_for, IsBlock, IsArena};
+ghost use Rattle.sipp_search.specs.Running.{IsReady, IsSound, KeepsKnown, HasGrown};
+
+use crate::states::{Arena, Mark, Spot, State};
+use crate::task::Task;
+use bucket_queue::BucketQueue;
+use calendars::{Calendar, CalendarView};
+use fleet_base::{Cell, Memory};
+use safe_intervals::next_gap;
+
+fn add_state(states: &mut Vec<State>, queue: &mut BucketQueue, spot: Spot) -> Result<(), Memory>
+    requires { queue.old.keys ≡ keys_of states.old.items }
+    ensures states { OnOk result (states.new.items ≡ states.old.items ++ unseen spot ∷ []) }
+    ensures queue { OnOk result (queue.new ≡ record queue.old { keys = keys_of states.new.items }) }
+{
+    queue.add()?;
+    states.push(State {
+        spot,
+        mark: Mark::Unseen,
+    })?;
+    Ok(())
+}
+
+// Adds an unseen state for each safe interval of a cell.
+fn add_states(
+    states: &mut Vec<State>,
+    queue: &mut BucketQueue,
+    calendar: &Calendar,
+    cell: Cell,
+    left: u32,
+    horizon: u32,
+) -> Result<(), Memory>
+    requires horizon { horizon ≤ 8000 }
+    requires paired { queue.old.keys ≡ keys_of states.old.items }
+    ensures states { OnOk result ((list : List AnInterval) × AreSafeIntervals calendar.now horizon list × (states.new.items ≡ states.old.items ++ states_for cell left list)) }
+    ensures queue { OnOk result (queue.new ≡ record queue.old { keys = keys_of states.new.items }) }
+{
+    let mut from = 0;
+    while let Some(interval) = next_gap(calendar, from, horizon) {
+        let spot = Spot {
+            cell,
+            interval,
+            left,
+        };
+        add_state(states, queue, spot)?;
+        from = interval.to + 1;
+    }
+    Ok(())
+}
+
+// Loads a cell and adds its states, unless that was done before.
+fn touch<V: CalendarView>(
+    view: &mut V,
+    arena: &mut Arena,
+    cell: Cell,
+    left: u32,
+    horizon: u32,
+) -> Result<(), Memory>
+    requires cell { cell.0 < V.size view.old }
+    requires count { length arena.old.firsts.items ≡ V.size view.old }
+    requires horizon { horizon ≤ 8000 }
+    requires paired { arena.old.queue.keys ≡ keys_of arena.old.states.items }
+    ensures cells { V.size view.new ≡ V.size view.old }
+    ensures went { V.went view.old view.new }
+    ensures others { (c : ℕ) → c ≢ cell.0 → V.known view.new c ≡ V.known view.old c }
+    ensures kept { (c : ℕ) → IsSome (V.known view.old c) → V.known view.new c ≡ V.known view.old c }
+    ensures count { OnOk result (length arena.new.firsts.items ≡ length arena.old.firsts.items) }
+    ensures queue { OnOk result (arena.new.queue ≡ record arena.old.queue { keys = keys_of arena.new.states.items }) }
+    ensures states { OnOk result ((list : List AnInterval) × (arena.new.states.items ≡ arena.old.states.items ++ states_for cell left list)) }
+    ensures touched { OnOk result ((first : ℕ) × (slice_get arena.new.firsts.items cell.0 ≡ Some (suc first))) }
+    ensures arena { OnOk result ((g : Terrain) (goal : ACell) → IsArena g goal horizon (V.known view.old) (spots_of arena.old.states.items) arena.old.firsts.items
+        → IsDistance g goal cell left → IsArena g goal horizon (V.known view.new) (spots_of arena.new.states.items) arena.new.firsts.items) }
+{
+    if arena.firsts[cell.0 as usize] != 0 {
+        return Ok(());
+    }
+    view.load(cell)?;
+    let first = arena.states.len();
+    add_states(
+        &mut arena.states,
+        &mut arena.queue,
+        view.calendar(cell),
+        cell,
+        left,
+        horizon,
+    )?;
+    arena.firsts[cell.0 as usize] = first + 1;
+    Ok(())
+}
+
+// Touches a cell from which a way leads to the goal, and gives the place of its first state.
+pub fn block_of<V: CalendarView>(
+    task: &Task,
+    view: &mut V,
+    arena: &mut Arena,
+    cell: Cell,
+) -> Result<Option<usize>, Memory>
+    requires ready { IsReady task.now.grid.now task.now.request task.now.horizon task.now.distances.now (V.size view.old) }
+    requires sound { IsSound task.now.grid.now task.now.request task.now.horizon (V.known view.old) (V.size view.old) arena.old }
+    requires cell { cell.0 < V.size view.old }
+    ensures cells { V.size view.new ≡ V.size view.old }
+    ensures went { V.went view.old view.new }
+    ensures others { (c : ℕ) → c ≢ cell.0 → V.known view.new c ≡ V.known view.old c }
+    ensures kept { KeepsKnown (V.known view.old) (V.known view.new) }
+    ensures sound { OnOk result (IsSound task.now.grid.now task.now.request task.now.horizon (V.known view.new) (V.size view.new) arena.new) }
+    ensures floor { OnOk result (arena.new.queue.floor ≡ arena.old.queue.floor) }
+    ensures grown { OnOk result (HasGrown arena.old.states.items arena.new.states.items) }
+    ensures block { IfOk result (λ o. IfSome o (λ first. IsBlock task.now.grid.now task.now.request.goal task.now.horizon (V.known view.new) (spots_of arena.new.states.items) cell first)) }
+    ensures none { IfOk result (λ o. IfNone o ((k : ℕ) → ¬ (IsDistance task.now.grid.now task.now.request.goal cell k))) }
+{
+    let Some(left) = task.distances.to_goal(cell) else {
+        return Ok(None);
+    };
+    touch(view, arena, cell, left, task.horizon)?;
+    Ok(Some(arena.firsts[cell.0 as usize] - 1))
+}
