@@ -2,7 +2,7 @@
 use Rattle.std.proofs.Common.{arith, subst, sym, ap, ◌∙◌, refl, inl, inr}
 use Rattle.std.proofs.lemmas.Bool.{cases_lt}
 use Rattle.std.proofs.lemmas.Option.{same_Some, none-some}
-use Rattle.std.specs.Prelude.{◌≡◌, ℕ, zero, suc, ◌≤◌, ◌⊎◌, ◌++◌, [], ◌∷◌, List, Option, Some, None, IsSome, slice_get}
+use Rattle.std.specs.Prelude.{◌≡◌, ℕ, zero, suc, ◌+◌, ◌≤◌, ◌⊎◌, ◌++◌, [], ◌∷◌, List, Option, Some, None, IsSome, length, slice_get}
 use Rattle.fleet_base.specs.declared.grid.Cell.{Cell}
 use Rattle.fleet_base.specs.declared.request.Record.{Record}
 use Rattle.fleet_base.specs.declared.request.Request.{Request}
@@ -23,7 +23,7 @@ use Rattle.sipp_search.specs.declared.states.Spot.{Spot}
 use Rattle.sipp_search.specs.declared.states.State.{State}
 use Rattle.sipp_search.specs.declared.states.Mark.{Mark}
 use Rattle.sipp_search.specs.declared.states.Mark.TheVariants.{Unseen, Queued, Final}
-use Rattle.sipp_search.specs.Marks.{spots_of, final}
+use Rattle.sipp_search.specs.Marks.{spots_of, final, one_if_final, final_count}
 use Rattle.sipp_search.specs.Answer.{IsSettled, IsDue, IsTable, IsRoute, IsNoRoute, IsAsked, IsNeeded}
 use Rattle.sipp_search.specs.Progress.{IsBound, IsWithin, HasFinal}
 use Rattle.sipp_search.specs.Running.{IsOver, EndsAt, Ends, IsLoadedFor, LoadsFor}
@@ -218,6 +218,15 @@ module _ (g : Terrain) (q : Request) (horizon : ℕ) (a : Assignment) (bound : I
         none has.place has.arrival (arrival w) has.spot has.stands has.cell_is has.holds is.may_end);
     settled = subst (λ (xs : List Settled). IsTable g horizon a q horizon xs) (sym table_is) (table_right horizon (omega arith) over);
   }
+
+-- the table has one entry for each final state
+pub table_length : (states : List State) → length (table_from states) ≡ final_count states
+table_length [] = refl
+table_length (x ∷ xs) = (let rest = table_length xs in entries x.spot x.mark rest) where
+  entries : (p : Spot) (m : Mark) → length (table_from xs) ≡ final_count xs → length (entry_by p m ++ table_from xs) ≡ one_if_final m + final_count xs
+  entries p Unseen rest = omega (arith, rest)
+  entries p (Queued r) rest = omega (arith, rest)
+  entries p (Final r) rest = omega (arith, rest)
 
 -- what was loaded for a final state is needed
 pub needed : (g : Terrain) (q : Request) (states : List State) (table : List Settled) (n : ℕ) → table ≡ table_from states → IsLoadedFor g states n → IsNeeded g q table n

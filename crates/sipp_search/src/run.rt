@@ -109,6 +109,7 @@ pub fn run<V: CalendarView, L: Ledger>(
     ensures kept { KeepsKnown (V.known view.old) (V.known view.new) }
     ensures takes { (lists : ℕ → List Interval) → AreListsOf (V.known view.new) task.now.horizon lists → steps.new ≤ steps.old + interval_count (V.known view.new) lists (V.size view.new) }
     ensures rises { steps.old ≤ steps.new }
+    ensures counted { OnOk result (steps.new ≡ steps.old + final_count arena.new.states.items) }
     ensures sound { OnOk result (IsSound task.now.grid.now task.now.request task.now.horizon (V.known view.new) (V.size view.new) arena.new) }
     ensures loads { OnOk result (LoadsFor task.now.grid.now (V.known view.old) (V.known view.new) arena.new.states.items) }
     ensures in_time { IfOk result (λ found. unwrap_or found task.now.horizon ≤ task.now.horizon) }

@@ -76,6 +76,7 @@ pub fn search<V: CalendarView, L: Ledger>(
     ensures answer { IfOk result (λ found. (a : Assignment) → Agrees a (V.known view.new) → IsAnswerOf grid.now horizon a request found) }
     ensures loads { IfOk result (λ found. (c : ℕ) → IsSome (V.known view.new c) → IsSome (V.known view.old c) ⊎ IsNeeded grid.now request (table_in found) c) }
 
+    ensures counted { IfOk result (λ found. steps.new ≡ steps.old + length (table_in found)) }
     ensures takes { (lists : ℕ → List Interval) → AreListsOf (V.known view.new) horizon lists → steps.new ≤ steps.old + interval_count (V.known view.new) lists (V.size view.new) }
     ensures rises { steps.old ≤ steps.new }
 

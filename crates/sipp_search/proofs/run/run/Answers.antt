@@ -6,7 +6,7 @@ use Rattle.fleet_base.specs.declared.request.Record.{Record}
 use Rattle.safe_intervals.specs.Safe.{IsIn, IsSafeInterval}
 use Rattle.sipp_search.specs.declared.states.State.{State}
 use Rattle.sipp_search.specs.declared.states.Arena.{Arena}
-use Rattle.sipp_search.specs.Marks.{spots_of, final}
+use Rattle.sipp_search.specs.Marks.{spots_of, final, final_count}
 use Rattle.sipp_search.specs.Progress.{IsUnderWay}
 use Rattle.sipp_search.specs.Running.{IsOver, LoadsFor}
 use Rattle.sipp_search.proofs.Lists.{stands_map}
@@ -121,6 +121,9 @@ returns-clause-takes g c = λ lists are.
     (let within = states_within c.args.task.now.grid.now c.args.task.now.request c.args.task.now.horizon (g.V.CalendarView.known c.loop-taken.view) (g.V.CalendarView.size c.loop-taken.view)
     c.loop-taken.arena lists c.loop-taken.invariant.sound are in
     omega (arith, c.loop-taken.invariant.count))
+
+pub returns-clause-counted : goal.returns-clause-counted
+returns-clause-counted g c = c.loop-taken.invariant.count ∙ ap (λ (z : Arena). c.args.steps.now + final_count z.states.items) (sym c.in_default.ensures.none)
 
 pub returns-clause-loads : goal.returns-clause-loads
 returns-clause-loads g c =

@@ -1,11 +1,11 @@
-use Rattle.std.proofs.Common.{subst, sym, ap, ◌∙◌, ℕ, length}
+use Rattle.std.proofs.Common.{arith, subst, sym, ap, ◌∙◌, ℕ, length}
 use Rattle.std.proofs.lemmas.List.{length-replicate}
 use Rattle.bucket_queue.specs.Queue.{Queue}
 use Rattle.sipp_search.specs.Answer.{table_in}
 use Rattle.sipp_search.specs.Marks.{spots_of, keys_of}
 use Rattle.sipp_search.specs.Progress.{IsUnderWay}
 use Rattle.sipp_search.proofs.Beginning.{bound_from, empty_arena_right}
-use Rattle.sipp_search.proofs.Answering.{loads_needed}
+use Rattle.sipp_search.proofs.Answering.{loads_needed, table_length}
 use Rattle.sipp_search.proofs.sipp.search.Goals as goal
 
 pub begin-requires-clause-ready : goal.begin-requires-clause-ready
@@ -51,3 +51,7 @@ pub returns-clause-loads : goal.returns-clause-loads
 returns-clause-loads g c =
     loads_needed c.args.grid.now c.args.request c.run.new.arena.states.items (table_in c.in_ok-found-2.found) (g.V.CalendarView.known c.args.view.now) (g.V.CalendarView.known c.begin.new.view)
     (g.V.CalendarView.known c.run.new.view) c.in_ok-found-2.ensures.table c.in_ok-begin.ensures.loads c.in_ok-found.ensures.loads
+
+pub returns-clause-counted : goal.returns-clause-counted
+returns-clause-counted g c =
+    omega (arith, c.in_ok-found.ensures.counted, table_length c.run.new.arena.states.items, ap length c.in_ok-found-2.ensures.table)
