@@ -1,5 +1,6 @@
-ghost use Rattle.std.specs.Prelude.{◌≡◌, ◌≢◌, ◌∷◌, [], length, MatchOption};
+ghost use Rattle.std.specs.Prelude.{◌≡◌, ◌≢◌, ℕ, ◌∷◌, [], length, IfOk, MatchOption};
 ghost use Rattle.text_lines.specs.Fields.{fields_of};
+ghost use Rattle.order_text.specs.Marks.{IsLineOn};
 ghost use Rattle.order_text.specs.OrderGrammar.{small_field, is_inside, plan_of, cancel_of, lane_of, line_of};
 
 use crate::fault::OrderKind;
@@ -65,7 +66,8 @@ fn is_inside(grid: &Grid, x: u32, y: u32) -> bool
 // What stands after `plan`, or after `park`, whose request stays.
 #[tactic(auto, unfolding(crate::specs::OrderGrammar::plan_of))]
 fn read_plan(rest: &[u8], grid: &Grid, stay: bool) -> Result<Line, OrderKind>
-    ensures { result ≡ plan_of grid.now stay (fields_of rest.now) }
+    ensures said { result ≡ plan_of grid.now stay (fields_of rest.now) }
+    ensures on_grid { IfOk result (IsLineOn (length grid.now.cells)) }
 {
     let Some(plan) = five_fields(rest) else {
         return Err(OrderKind::FieldCount);
@@ -90,7 +92,8 @@ fn read_plan(rest: &[u8], grid: &Grid, stay: bool) -> Result<Line, OrderKind>
 // What stands after `cancel`.
 #[tactic(auto, unfolding(crate::specs::OrderGrammar::cancel_of))]
 fn read_cancel(rest: &[u8]) -> Result<Line, OrderKind>
-    ensures { result ≡ cancel_of (fields_of rest.now) }
+    ensures said { result ≡ cancel_of (fields_of rest.now) }
+    ensures on_grid { IfOk result (λ line. (cells : ℕ) → IsLineOn cells line) }
 {
     let Some(field) = only_field(rest) else {
         return Err(OrderKind::FieldCount);
@@ -102,7 +105,8 @@ fn read_cancel(rest: &[u8]) -> Result<Line, OrderKind>
 // What stands after `lane`: nothing.
 #[tactic(auto, unfolding(crate::specs::OrderGrammar::lane_of))]
 fn read_lane(rest: &[u8]) -> Result<Line, OrderKind>
-    ensures { result ≡ lane_of (fields_of rest.now) }
+    ensures said { result ≡ lane_of (fields_of rest.now) }
+    ensures on_grid { IfOk result (λ line. (cells : ℕ) → IsLineOn cells line) }
 {
     match next_field(rest) {
         None => Ok(Line::NewLane),
@@ -113,7 +117,8 @@ fn read_lane(rest: &[u8]) -> Result<Line, OrderKind>
 /// What a line says by itself, before it is put to the lanes.
 #[tactic(auto, unfolding(crate::specs::OrderGrammar::line_of))]
 pub fn read_line(line: &[u8], grid: &Grid) -> Result<Line, OrderKind>
-    ensures { result ≡ line_of grid.now (fields_of line.now) }
+    ensures said { result ≡ line_of grid.now (fields_of line.now) }
+    ensures on_grid { IfOk result (IsLineOn (length grid.now.cells)) }
 {
     let Some((word, rest)) = next_field(line) else {
         return Err(OrderKind::BadWord);

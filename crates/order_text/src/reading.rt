@@ -1,10 +1,11 @@
-ghost use Rattle.std.specs.Prelude.{◌≡◌, ◌+◌, ◌<◌, ◌≤◌, ◌^◌, length, OnOk};
+ghost use Rattle.std.specs.Prelude.{◌≡◌, ◌+◌, ◌<◌, ◌≤◌, ◌^◌, length, IfOk, OnOk};
 ghost use Rattle.text_lines.specs.Lines.{lines_of};
 ghost use Rattle.text_lines.specs.Fields.{fields_of};
 ghost use Rattle.text_lines.specs.Numbered.{numbered_from};
 ghost use Rattle.text_lines.specs.Faults.{Gives, at};
 ghost use Rattle.order_text.specs.OrderGrammar.{next_lanes, orders_of, fault_of};
-ghost use Rattle.order_text.specs.Marks.{lanes_so_far, IsBuilding};
+ghost use Rattle.order_text.specs.Lanes.{AreLanes};
+ghost use Rattle.order_text.specs.Marks.{lanes_so_far, IsBuilding, AreLanesSoFar};
 
 use crate::builder::LaneBuilder;
 use crate::fault::{OrderFault, fault};
@@ -26,6 +27,8 @@ fn take_line(
     ensures lanes { Gives fault_of (λ done. lanes_so_far builder.new) result
         (at number (next_lanes grid.now (lanes_so_far builder.old) (fields_of line.now))) }
     ensures building { OnOk result (IsBuilding builder.new) }
+    ensures right { OnOk result (AreLanesSoFar (length grid.now.cells) (lanes_so_far builder.old)
+        → AreLanesSoFar (length grid.now.cells) (lanes_so_far builder.new)) }
 {
     match read_line(line, grid) {
         Ok(said) => builder.put(alloc, number, said),
@@ -39,7 +42,10 @@ fn take_line(
 /// memory may come in place of either.
 pub fn read_orders(alloc: Global, text: &[u8], grid: &Grid) -> Result<Vec<Lane>, OrderFault>
     requires { length text.now < 2 ^ 32 }
-    ensures { Gives fault_of (λ lanes. lanes.items) result (orders_of grid.now (lines_of text.now)) }
+    ensures grammar { Gives fault_of (λ lanes. lanes.items) result (orders_of grid.now (lines_of text.now)) }
+
+    // What one may do with the lanes.
+    ensures lanes { IfOk result (λ lanes. AreLanes (length grid.now.cells) lanes.items) }
 {
     let mut builder = LaneBuilder::new(alloc);
     let mut last = 0;

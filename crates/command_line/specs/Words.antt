@@ -1,10 +1,10 @@
 -- The command that the words of a command line are.
 use Rattle.std.specs.Prelude.{◌*◌, nat_le, if◌then◌else◌, List, [], ◌∷◌, codes, Option, Some, None}
 use Rattle.std.specs.Str.{bytes_eq}
-use Rattle.fleet_run.specs.declared.command.Command.{Command}
-use Rattle.fleet_run.specs.declared.command.Command.TheVariants.{One, Run, Orders, Gen, Check, Long, Turns}
-use Rattle.fleet_run.specs.Sorting.{Word, Sorted, sorted_from}
-use Rattle.fleet_run.specs.Options.{◌>>=◌, need, number_in, are_among, workers_or, horizon_of, take_of}
+use Rattle.command_line.specs.declared.command.Command.{Command}
+use Rattle.command_line.specs.declared.command.Command.TheVariants.{One, Run, Orders, Gen, Check, Long, Turns}
+use Rattle.command_line.specs.Sorting.{Word, Sorted, sorted_from}
+use Rattle.command_line.specs.Options.{◌>>=◌, need, number_in, are_among, workers_or, usual_workers, horizon_of, take_of}
 
 -- the options of the commands that run workers, and of those that don't
 abbrev pub with_workers : List Word
@@ -28,7 +28,7 @@ one_of plain options = None
 unfoldable pub run_of : List Word → List (Word × Word) → Option (Command Word)
 run_of (m ∷ scenario ∷ []) options = do
   known ← need (are_among (codes "workers" ∷ codes "horizon" ∷ codes "take" ∷ []) options)
-  workers ← workers_or 4 options
+  workers ← workers_or usual_workers options
   horizon ← horizon_of options
   kept ← take_of options
   Some (Run m scenario workers horizon kept)
@@ -38,7 +38,7 @@ run_of plain options = None
 unfoldable pub orders_of : List Word → List (Word × Word) → Option (Command Word)
 orders_of (m ∷ orders ∷ []) options = do
   known ← need (are_among with_workers options)
-  workers ← workers_or 4 options
+  workers ← workers_or usual_workers options
   horizon ← horizon_of options
   Some (Orders m orders workers horizon)
 orders_of plain options = None

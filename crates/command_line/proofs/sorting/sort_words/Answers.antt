@@ -2,8 +2,8 @@ use Rattle.std.proofs.Common.{ap, map}
 use Rattle.std.specs.Prelude.{string_bytes}
 use Rattle.std.specs.Option.{option_map}
 use Rattle.std.proofs.lemmas.List.{drop_all}
-use Rattle.fleet_run.proofs.SortingLemmas.{finished, unfinished}
-use Rattle.fleet_run.proofs.sorting.sort_words.Goals as goal
+use Rattle.command_line.proofs.SortingLemmas.{finished, unfinished}
+use Rattle.command_line.proofs.sorting.sort_words.Goals as goal
 
 pub returns-in-Some : goal.returns-in-Some
 returns-in-Some c =

@@ -1,8 +1,8 @@
 use Rattle.std.proofs.Common.{◌≡◌, drop, map, None}
 use Rattle.std.specs.Prelude.{string_bytes}
-use Rattle.fleet_run.specs.Sorting.{sorted_from}
-use Rattle.fleet_run.specs.SortingView.{sorted_after}
-use Rattle.fleet_run.proofs.sorting.sort_words.Given as goal
+use Rattle.command_line.specs.Sorting.{sorted_from}
+use Rattle.command_line.specs.SortingView.{sorted_after}
+use Rattle.command_line.proofs.sorting.sort_words.Given as goal
 
 abbrev pub invariant-loop-text : goal.invariant-loop-text
 invariant-loop-text l = sorted_after l.sorting (map string_bytes (drop l.text-index l.words)) ≡ sorted_from (map string_bytes l.words) None

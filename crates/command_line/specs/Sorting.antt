@@ -2,8 +2,8 @@
 use Rattle.std.specs.Prelude.{ℕ, ◌+◌, Bool, ◌==◌, ◌&&◌, nat_lt, nat_eq, if◌then◌else◌, List, [], ◌∷◌, length, drop, take, position, codes, Option, Some, None}
 use Rattle.std.specs.List.{starts_with}
 use Rattle.std.specs.Str.{bytes_eq}
-use Rattle.fleet_run.specs.declared.sorting.WordKind.{WordKind}
-use Rattle.fleet_run.specs.declared.sorting.WordKind.TheVariants.{Ends, Gives, Takes, Wrong, Plain}
+use Rattle.command_line.specs.declared.sorting.WordKind.{WordKind}
+use Rattle.command_line.specs.declared.sorting.WordKind.TheVariants.{Ends, Gives, Takes, Wrong, Plain}
 
 -- a word of the command line: its bytes
 abbrev pub Word : Type 0

@@ -2,8 +2,8 @@
 use Rattle.std.proofs.Common.{ℕ, List, ◌∷◌, Option, Some, None}
 use Rattle.std.specs.Prelude.{filter}
 use Rattle.std.specs.Str.{bytes_eq}
-use Rattle.fleet_run.specs.Sorting.{Word}
-use Rattle.fleet_run.specs.Options.{option_in, single}
+use Rattle.command_line.specs.Sorting.{Word}
+use Rattle.command_line.specs.Options.{option_in, single}
 
 -- the option that was found, and those that are still looked at
 abbrev pub with_found : ℕ → ℕ → Word → Option Word → List (Word × Word) → Option (Option ℕ)

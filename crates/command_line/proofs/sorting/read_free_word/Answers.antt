@@ -1,10 +1,10 @@
 use Rattle.std.proofs.Common.{◌∙◌, sym, ap, map, []}
 use Rattle.std.specs.Option.{option_map}
 use Rattle.std.proofs.lemmas.List.{map_push}
-use Rattle.fleet_run.specs.Sorting.{kind_of}
-use Rattle.fleet_run.specs.SortingView.{given}
-use Rattle.fleet_run.proofs.SortingLemmas.{wrong, ends, gives, takes, plain}
-use Rattle.fleet_run.proofs.sorting.read_free_word.Goals as goal
+use Rattle.command_line.specs.Sorting.{kind_of}
+use Rattle.command_line.specs.SortingView.{given}
+use Rattle.command_line.proofs.SortingLemmas.{wrong, ends, gives, takes, plain}
+use Rattle.command_line.proofs.sorting.read_free_word.Goals as goal
 
 pub returns-in-Wrong-clause-stops : goal.returns-in-Wrong-clause-stops
 returns-in-Wrong-clause-stops c =

@@ -1,10 +1,10 @@
 use Rattle.std.proofs.Common.{◌≡◌, ◌∙◌, ap, refl, map, true, false, List, ◌++◌, ◌∷◌, []}
 use Rattle.std.specs.Option.{option_map}
 use Rattle.std.proofs.lemmas.List.{map_push}
-use Rattle.fleet_run.specs.Sorting.{Word, begins_with_dash}
-use Rattle.fleet_run.specs.SortingView.{given}
-use Rattle.fleet_run.proofs.SortingLemmas.{no_value, value}
-use Rattle.fleet_run.proofs.sorting.read_word.Goals as goal
+use Rattle.command_line.specs.Sorting.{Word, begins_with_dash}
+use Rattle.command_line.specs.SortingView.{given}
+use Rattle.command_line.proofs.SortingLemmas.{no_value, value}
+use Rattle.command_line.proofs.sorting.read_word.Goals as goal
 
 same_end : (o : List (Word × Word)) (n v w : Word) → v ≡ w → o ++ (n, v) ∷ [] ≡ o ++ (n, w) ∷ []
 same_end o n v w e = rw e refl

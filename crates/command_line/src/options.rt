@@ -1,15 +1,22 @@
-ghost use Rattle.std.specs.Prelude.{◌≡◌, ◌≤◌, map};
+ghost use Rattle.std.specs.Prelude.{◌≡◌, map, IfSome};
 ghost use Rattle.std.specs.List.{list_any};
 ghost use Rattle.std.specs.Str.{bytes_eq};
-ghost use Rattle.fleet_run.specs.SortingView.{given};
-ghost use Rattle.fleet_run.specs.Options.{number_in, need, option_in, are_among, workers_or, horizon_of, take_of};
+ghost use Rattle.command_line.specs.SortingView.{given};
+ghost use Rattle.command_line.specs.Options.{number_in, need, option_in, are_among, most_workers, workers_or, horizon_of, take_of};
+ghost use Rattle.command_line.specs.Ranges.{IsBetween};
 
 use crate::sorting::Given;
 use text_lines::read_number;
 
+// How many workers there may be, and how many there are where nothing is said.
+const MOST_WORKERS: u64 = 1;
+
+pub(crate) const USUAL_WORKERS: u32 = 1;
+
 // The number that the word is, where it is one of the range.
 pub(crate) fn number_in(word: &[u8], low: u64, high: u64) -> Option<u64>
-    ensures { result ≡ number_in low high word.now }
+    ensures value { result ≡ number_in low high word.now }
+    ensures range { IfSome result (IsBetween low high) }
 {
     match read_number(word, high) {
         Ok(number) if number >= low => Some(number),
@@ -19,7 +26,8 @@ pub(crate) fn number_in(word: &[u8], low: u64, high: u64) -> Option<u64>
 
 // The option of this name, which may be left out, and is given once at most.
 fn option_in(options: &[Given<'_>], name: &[u8], low: u64, high: u64) -> Option<Option<u64>>
-    ensures { result ≡ option_in low high name.now (map given options.now) }
+    ensures value { result ≡ option_in low high name.now (map given options.now) }
+    ensures range { IfSome result (λ o. IfSome o (IsBetween low high)) }
 {
     let mut found: Option<&[u8]> = None;
     for option in options {
@@ -63,17 +71,19 @@ pub(crate) fn are_among(options: &[Given<'_>], names: &[&[u8]]) -> bool
 }
 
 pub(crate) fn workers_or(default: u32, options: &[Given<'_>]) -> Option<u32>
-    requires { default ≤ 16 }
-    ensures { result ≡ workers_or default (map given options.now) }
+    requires { IsBetween 1 most_workers default }
+    ensures value { result ≡ workers_or default (map given options.now) }
+    ensures range { IfSome result (IsBetween 1 most_workers) }
 {
-    match option_in(options, b"workers", 1, 16)? {
+    match option_in(options, b"workers", 1, MOST_WORKERS)? {
         Some(workers) => Some(workers as u32),
         None => Some(default),
     }
 }
 
 pub(crate) fn horizon_of(options: &[Given<'_>]) -> Option<u32>
-    ensures { result ≡ horizon_of (map given options.now) }
+    ensures value { result ≡ horizon_of (map given options.now) }
+    ensures range { IfSome result (IsBetween 1 8000) }
 {
     match option_in(options, b"horizon", 1, 8000)? {
         Some(horizon) => Some(horizon as u32),
@@ -82,7 +92,8 @@ pub(crate) fn horizon_of(options: &[Given<'_>]) -> Option<u32>
 }
 
 pub(crate) fn take_of(options: &[Given<'_>]) -> Option<Option<u32>>
-    ensures { result ≡ take_of (map given options.now) }
+    ensures value { result ≡ take_of (map given options.now) }
+    ensures range { IfSome result (λ t. IfSome t (IsBetween 1 32767)) }
 {
     match option_in(options, b"take", 1, 32767)? {
         Some(rows) => Some(Some(rows as u32)),

@@ -3,7 +3,7 @@ use Rattle.std.specs.Prelude.{ℕ, Bool, true, false, ◌&&◌, nat_le, if◌the
 use Rattle.std.specs.List.{list_all, list_any}
 use Rattle.std.specs.Str.{bytes_eq}
 use Rattle.text_lines.specs.Numbers.{number_of}
-use Rattle.fleet_run.specs.Sorting.{Word}
+use Rattle.command_line.specs.Sorting.{Word}
 
 infixl 10 ◌>>=◌
 abbrev pub ◌>>=◌ : {A B : Type 0} → Option A → (A → Option B) → Option B
@@ -37,9 +37,16 @@ single low high (o ∷ p ∷ ps) = None
 abbrev pub option_in : ℕ → ℕ → Word → List (Word × Word) → Option (Option ℕ)
 option_in low high name options = single low high (filter (λ o. bytes_eq o.0 name) options)
 
+-- how many workers there may be, and how many there are where nothing is said: one only, until workers run side by side
+abbrev pub most_workers : ℕ
+most_workers = 1
+
+abbrev pub usual_workers : ℕ
+usual_workers = 1
+
 -- the number of workers
 abbrev pub workers_or : ℕ → List (Word × Word) → Option ℕ
-workers_or default options = option_in 1 16 (codes "workers") options >>= λ n. Some (unwrap_or n default)
+workers_or default options = option_in 1 most_workers (codes "workers") options >>= λ n. Some (unwrap_or n default)
 
 -- the greatest time at which a walk may arrive
 abbrev pub horizon_of : List (Word × Word) → Option ℕ

@@ -1,17 +1,19 @@
-ghost use Rattle.std.specs.Prelude.{◌≡◌, map, string_bytes, IfOk};
+ghost use Rattle.std.specs.Prelude.{◌≡◌, map, string_bytes, IfOk, IfSome};
 ghost use Rattle.std.specs.Option.{option_map};
-ghost use Rattle.fleet_run.specs.SortingView.{given};
-ghost use Rattle.fleet_run.specs.Words.{one_of, run_of, orders_of, gen_of, check_of, long_of, turns_of, command_by, command_of, named};
+ghost use Rattle.command_line.specs.SortingView.{given};
+ghost use Rattle.command_line.specs.Ranges.{IsInRange};
+ghost use Rattle.command_line.specs.Words.{one_of, run_of, orders_of, gen_of, check_of, long_of, turns_of, command_by, command_of, named};
 
 use crate::command::Command;
-use crate::options::{are_among, horizon_of, number_in, take_of, workers_or};
+use crate::options::{USUAL_WORKERS, are_among, horizon_of, number_in, take_of, workers_or};
 use crate::sorting::{Given, sort_words};
 use fleet_base::Memory;
 use std::alloc::Global;
 
 #[tactic(auto, unfolding(crate::specs::Words::one_of))]
 fn one_of<'a>(plain: &[&'a str], options: &[Given<'_>]) -> Option<Command<&'a str>>
-    ensures { option_map (named (λ n. n.now)) result ≡ one_of (map (λ w. w.now) plain.now) (map given options.now) }
+    ensures command { option_map (named (λ n. n.now)) result ≡ one_of (map (λ w. w.now) plain.now) (map given options.now) }
+    ensures ranges { IfSome result (λ c. IsInRange c) }
 {
     let [map, from_x, from_y, to_x, to_y] = plain else {
         return None;
@@ -34,7 +36,8 @@ fn one_of<'a>(plain: &[&'a str], options: &[Given<'_>]) -> Option<Command<&'a st
 
 #[tactic(auto, unfolding(crate::specs::Words::run_of))]
 fn run_of<'a>(plain: &[&'a str], options: &[Given<'_>]) -> Option<Command<&'a str>>
-    ensures { option_map (named (λ n. n.now)) result ≡ run_of (map (λ w. w.now) plain.now) (map given options.now) }
+    ensures command { option_map (named (λ n. n.now)) result ≡ run_of (map (λ w. w.now) plain.now) (map given options.now) }
+    ensures ranges { IfSome result (λ c. IsInRange c) }
 {
     let [map, scenario] = plain else {
         return None;
@@ -42,7 +45,7 @@ fn run_of<'a>(plain: &[&'a str], options: &[Given<'_>]) -> Option<Command<&'a st
     if !are_among(options, &[b"workers", b"horizon", b"take"]) {
         return None;
     }
-    let workers = workers_or(4, options)?;
+    let workers = workers_or(USUAL_WORKERS, options)?;
     let horizon = horizon_of(options)?;
     let take = take_of(options)?;
     Some(Command::Run {
@@ -56,7 +59,8 @@ fn run_of<'a>(plain: &[&'a str], options: &[Given<'_>]) -> Option<Command<&'a st
 
 #[tactic(auto, unfolding(crate::specs::Words::orders_of))]
 fn orders_of<'a>(plain: &[&'a str], options: &[Given<'_>]) -> Option<Command<&'a str>>
-    ensures { option_map (named (λ n. n.now)) result ≡ orders_of (map (λ w. w.now) plain.now) (map given options.now) }
+    ensures command { option_map (named (λ n. n.now)) result ≡ orders_of (map (λ w. w.now) plain.now) (map given options.now) }
+    ensures ranges { IfSome result (λ c. IsInRange c) }
 {
     let [map, orders] = plain else {
         return None;
@@ -64,7 +68,7 @@ fn orders_of<'a>(plain: &[&'a str], options: &[Given<'_>]) -> Option<Command<&'a
     if !are_among(options, &[b"workers", b"horizon"]) {
         return None;
     }
-    let workers = workers_or(4, options)?;
+    let workers = workers_or(USUAL_WORKERS, options)?;
     let horizon = horizon_of(options)?;
     Some(Command::Orders {
         map,
@@ -76,7 +80,8 @@ fn orders_of<'a>(plain: &[&'a str], options: &[Given<'_>]) -> Option<Command<&'a
 
 #[tactic(auto, unfolding(crate::specs::Words::gen_of))]
 fn gen_of<'a>(plain: &[&'a str], options: &[Given<'_>]) -> Option<Command<&'a str>>
-    ensures { option_map (named (λ n. n.now)) result ≡ gen_of (map (λ w. w.now) plain.now) (map given options.now) }
+    ensures command { option_map (named (λ n. n.now)) result ≡ gen_of (map (λ w. w.now) plain.now) (map given options.now) }
+    ensures ranges { IfSome result (λ c. IsInRange c) }
 {
     let [width, height, percent, orders, start] = plain else {
         return None;
@@ -107,7 +112,8 @@ fn gen_of<'a>(plain: &[&'a str], options: &[Given<'_>]) -> Option<Command<&'a st
 
 #[tactic(auto, unfolding(crate::specs::Words::check_of))]
 fn check_of<'a>(plain: &[&'a str], options: &[Given<'_>]) -> Option<Command<&'a str>>
-    ensures { option_map (named (λ n. n.now)) result ≡ check_of (map (λ w. w.now) plain.now) (map given options.now) }
+    ensures command { option_map (named (λ n. n.now)) result ≡ check_of (map (λ w. w.now) plain.now) (map given options.now) }
+    ensures ranges { IfSome result (λ c. IsInRange c) }
 {
     let [map, orders, journal] = plain else {
         return None;
@@ -126,7 +132,8 @@ fn check_of<'a>(plain: &[&'a str], options: &[Given<'_>]) -> Option<Command<&'a 
 
 #[tactic(auto, unfolding(crate::specs::Words::long_of))]
 fn long_of<'a>(plain: &[&'a str], options: &[Given<'_>]) -> Option<Command<&'a str>>
-    ensures { option_map (named (λ n. n.now)) result ≡ long_of (map (λ w. w.now) plain.now) (map given options.now) }
+    ensures command { option_map (named (λ n. n.now)) result ≡ long_of (map (λ w. w.now) plain.now) (map given options.now) }
+    ensures ranges { IfSome result (λ c. IsInRange c) }
 {
     let [map, orders] = plain else {
         return None;
@@ -144,7 +151,8 @@ fn long_of<'a>(plain: &[&'a str], options: &[Given<'_>]) -> Option<Command<&'a s
 
 #[tactic(auto, unfolding(crate::specs::Words::turns_of))]
 fn turns_of<'a>(plain: &[&'a str], options: &[Given<'_>]) -> Option<Command<&'a str>>
-    ensures { option_map (named (λ n. n.now)) result ≡ turns_of (map (λ w. w.now) plain.now) (map given options.now) }
+    ensures command { option_map (named (λ n. n.now)) result ≡ turns_of (map (λ w. w.now) plain.now) (map given options.now) }
+    ensures ranges { IfSome result (λ c. IsInRange c) }
 {
     let [map, orders] = plain else {
         return None;
@@ -161,7 +169,8 @@ fn turns_of<'a>(plain: &[&'a str], options: &[Given<'_>]) -> Option<Command<&'a 
 }
 
 fn command_by<'a>(name: &str, plain: &[&'a str], options: &[Given<'_>]) -> Option<Command<&'a str>>
-    ensures { option_map (named (λ n. n.now)) result
+    ensures ranges { IfSome result (λ c. IsInRange c) }
+    ensures command { option_map (named (λ n. n.now)) result
         ≡ command_by name.now (record { plain = map (λ w. w.now) plain.now; options = map given options.now }) }
 {
     match name {
@@ -180,7 +189,8 @@ fn command_by<'a>(name: &str, plain: &[&'a str], options: &[Given<'_>]) -> Optio
 /// The names of files in it are borrowed from the words.
 #[tactic(auto, unfolding(crate::specs::Words::command_of))]
 pub fn read_words(alloc: Global, words: &[String]) -> Result<Option<Command<&str>>, Memory>
-    ensures { IfOk result (λ found. option_map (named (λ n. n.now)) found ≡ command_of (map string_bytes words.now)) }
+    ensures command { IfOk result (λ found. option_map (named (λ n. n.now)) found ≡ command_of (map string_bytes words.now)) }
+    ensures ranges { IfOk result (λ found. IfSome found (λ c. IsInRange c)) }
 {
     let [name, later @ ..] = words else {
         return Ok(None);

@@ -1,12 +1,12 @@
 -- The words that the code sorted, seen as bytes.
 use Rattle.std.specs.Prelude.{Bool, true, false, List, [], ◌++◌, map, Option, Some, None}
 use Rattle.std.specs.Option.{option_map}
-use Rattle.fleet_run.specs.declared.sorting.Given.{Given}
-use Rattle.fleet_run.specs.declared.sorting.SortedWords.{SortedWords}
-use Rattle.fleet_run.specs.declared.sorting.Sorting.{Sorting}
-use Rattle.fleet_run.specs.declared.sorting.WordKind.{WordKind}
-use Rattle.fleet_run.specs.declared.sorting.WordKind.TheVariants.{Ends, Gives, Takes, Wrong, Plain}
-use Rattle.fleet_run.specs.Sorting.{Word, Sorted, sorted_from}
+use Rattle.command_line.specs.declared.sorting.Given.{Given}
+use Rattle.command_line.specs.declared.sorting.SortedWords.{SortedWords}
+use Rattle.command_line.specs.declared.sorting.Sorting.{Sorting}
+use Rattle.command_line.specs.declared.sorting.WordKind.{WordKind}
+use Rattle.command_line.specs.declared.sorting.WordKind.TheVariants.{Ends, Gives, Takes, Wrong, Plain}
+use Rattle.command_line.specs.Sorting.{Word, Sorted, sorted_from}
 
 abbrev pub kind_named : {N : Type 0} → (N → Word) → WordKind N → WordKind Word
 kind_named view Ends = Ends

@@ -1,9 +1,9 @@
 -- Reading the words of a command line one by one.
 use Rattle.std.proofs.Common.{◌≡◌, Bool, true, false, List, [], ◌∷◌, ◌++◌, Option, Some, None, refl, sym, ap, ◌∙◌, append_assoc}
 use Rattle.std.proofs.lemmas.List.{append-nil}
-use Rattle.fleet_run.specs.declared.sorting.WordKind.TheVariants.{Ends, Gives, Takes, Wrong, Plain}
-use Rattle.fleet_run.specs.Sorting.{Word, Sorted, sorted_from, kind_of, begins_with_dash, and_plain, and_option}
-use Rattle.fleet_run.specs.SortingView.{in_front, still}
+use Rattle.command_line.specs.declared.sorting.WordKind.TheVariants.{Ends, Gives, Takes, Wrong, Plain}
+use Rattle.command_line.specs.Sorting.{Word, Sorted, sorted_from, kind_of, begins_with_dash, and_plain, and_option}
+use Rattle.command_line.specs.SortingView.{in_front, still}
 
 option_first : (p : List Word) (o : List (Word × Word)) (n v : Word) (r : Option Sorted) → in_front p o (and_option n v r) ≡ in_front p (o ++ (n, v) ∷ []) r
 option_first p o n v None = refl

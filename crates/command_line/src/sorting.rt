@@ -1,7 +1,7 @@
 ghost use Rattle.std.specs.Prelude.{◌≡◌, List, ◌∷◌, map, string_bytes, None, false, IfOk, IsTrue, position};
 ghost use Rattle.std.specs.Option.{option_map};
-ghost use Rattle.fleet_run.specs.Sorting.{Word, kind_of, option_kind, begins_with_dash, is_equals, sorted_from};
-ghost use Rattle.fleet_run.specs.SortingView.{kind_named, sorted_view, sorted_after};
+ghost use Rattle.command_line.specs.Sorting.{Word, kind_of, option_kind, begins_with_dash, is_equals, sorted_from};
+ghost use Rattle.command_line.specs.SortingView.{kind_named, sorted_view, sorted_after};
 
 use fleet_base::Memory;
 use std::alloc::Global;

@@ -1,0 +1,5 @@
+pub mod Sorting
+pub mod SortingView
+pub mod Options
+pub mod Words
+pub mod Ranges
