@@ -1,0 +1,4 @@
+pub mod BookState
+pub mod Replies
+pub mod History
+pub mod Resuming
