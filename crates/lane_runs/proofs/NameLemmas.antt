@@ -4,14 +4,14 @@ use Rattle.std.specs.Prelude.{◌==◌, nat_le, None, All, slice_get}
 use Rattle.std.specs.List.{list_any}
 use Rattle.std.proofs.lemmas.Bool.{leb-true}
 use Rattle.std.proofs.lemmas.List.{length-append}
-use Rattle.std.proofs.lemmas.List.Elements.{All-head, All-tail}
-use Rattle.std.proofs.lemmas.Option.{slice_get_within}
+use Rattle.std.proofs.lemmas.List.Elements.{All-nil, All-append, All-head, All-tail}
+use Rattle.std.proofs.lemmas.Option.{slice_get_within, get_or_from_slice_get}
 use Rattle.fleet_base.specs.declared.request.Request.{Request}
 use Rattle.fleet_base.proofs.WalkLemmas.{nat_cases}
 use Rattle.order_text.specs.declared.lane.Lane.{Lane}
 use Rattle.order_text.specs.declared.order.Order.{Order}
 use Rattle.order_text.specs.declared.order.Order.TheVariants.{Plan, Cancel}
-use Rattle.order_text.specs.Lanes.{is_plan, cancels, may_cancel, MayName, after_lane, all_orders, IsLane, AreNumberedFrom, AreLanes}
+use Rattle.order_text.specs.Lanes.{is_plan, cancels, may_cancel, MayName, after_lane, all_orders, IsOrderOn, IsLane, AreNumberedFrom, AreLanes}
 use Rattle.lane_runs.specs.Answering.{NamePlans}
 use Rattle.lane_runs.proofs.AnswerLemmas.{get_longer}
 
@@ -130,3 +130,14 @@ names_from cells base (l ∷ ls) numbered each =
 
 pub all_names : (cells : ℕ) (lanes : List Lane) → AreLanes cells lanes → NamePlans 0 (all_orders lanes)
 all_names cells lanes are = names_from cells 0 lanes are.numbered are.each
+
+-- ---- orders on the grid
+
+all_on : (cells : ℕ) (lanes : List Lane) → All (IsLane cells) lanes → All (IsOrderOn cells) (all_orders lanes)
+all_on cells [] each = All-nil (IsOrderOn cells)
+all_on cells (l ∷ ls) each =
+    All-append (IsOrderOn cells) l.orders (all_orders ls) (All-head (IsLane cells) l ls each).on_grid (all_on cells ls (All-tail (IsLane cells) l ls each))
+
+pub order_on : (cells : ℕ) (lanes : List Lane) (n : ℕ) (o : Order) → AreLanes cells lanes → slice_get (all_orders lanes) n ≡ Some o → IsOrderOn cells o
+order_on cells lanes n o are at =
+    subst (IsOrderOn cells) (get_or_from_slice_get (all_orders lanes) n o o at) (all_on cells lanes are.each n o (slice_get_within (all_orders lanes) n o at))
