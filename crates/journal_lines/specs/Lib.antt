@@ -1,0 +1,4 @@
+pub mod Moves
+pub mod Totals
+pub mod Lines
+pub mod Printing
