@@ -1,19 +1,23 @@
 -- What a call of `fleet` leaves, by its outcome.
-use Rattle.std.specs.Prelude.{◌≡◌, ℕ, ◌≤◌, ◌⊎◌, ◌++◌, List, [], ◌∷◌, codes, Option, Some, None, Result, Ok, Err, Vec, length}
+use Rattle.std.specs.Prelude.{◌≡◌, ℕ, ◌≤◌, ◌⊎◌, ◌++◌, List, [], ◌∷◌, codes, Option, Some, None, Result, Ok, Err}
 use Rattle.fleet_base.specs.Terrain.{Terrain}
 use Rattle.fleet_io.specs.Counts.{raised}
-use Rattle.fleet_io.specs.Files.{NamedFile, content_of}
+use Rattle.fleet_io.specs.Files.{NamedFile}
 use Rattle.fleet_io.specs.Written.{Writes, WritesFront}
-use Rattle.text_lines.specs.Lines.{lines_of}
-use Rattle.map_text.specs.MapGrammar.{map_of}
+use Rattle.map_text.specs.declared.fault.MapKind.{MapKind}
+use Rattle.scen_text.specs.declared.fault.ScenKind.{ScenKind}
+use Rattle.order_text.specs.declared.fault.OrderKind.{OrderKind}
+use Rattle.command_line.specs.declared.command.Command.{Command}
+use Rattle.command_line.specs.declared.command.Command.TheVariants.{One, Run, Orders}
+use Rattle.command_line.specs.Sorting.{Word}
 use Rattle.fleet_run.specs.declared.outcome.Outcome.{Outcome}
 use Rattle.fleet_run.specs.declared.outcome.Outcome.TheVariants as outcomes
 use Rattle.fleet_run.specs.declared.stop.Stop.{Stop}
 use Rattle.fleet_run.specs.declared.stop.Stop.TheVariants as stops
-use Rattle.fleet_run.specs.Sorting.{Word}
 use Rattle.fleet_run.specs.Offered.{offered_of}
 use Rattle.fleet_run.specs.Stopped.{outcome_of, line_of}
-use Rattle.fleet_run.specs.Asked.{map_limit, IsMapRead, IsMapRefused, Asked, IsAsked, IsInside, AreInside, request_of, asked_request, IsText}
+use Rattle.fleet_run.specs.Files.{map_name, second_name, IsMapRead, IsMapRefused, IsScenRefused, IsOrdersRefused}
+use Rattle.fleet_run.specs.Due.{AreInside, IsDue}
 
 -- what the shelf and the two sinks tell at one time
 pub record World : Type 0 where
@@ -32,42 +36,90 @@ HasRisen before now = raised before ≤ now
 abbrev pub GotLine : Option (List ℕ) → ℕ → List ℕ → Option (List ℕ) → ℕ → Type 0
 GotLine old faults line new now = Writes old line new ⊎ (WritesFront old line new × HasRisen faults now)
 
--- the text that is due before anything is written
-pub record IsPrepared (words : List Word) (files : Option (List NamedFile)) (text : List ℕ) : Type 0 where
-  pub asked : Asked
-  pub command : IsAsked words asked
-  pub grid : Terrain
-  pub map : IsMapRead files asked.map grid
-  pub inside : AreInside grid asked
-  pub answer : IsText grid (asked_request grid asked) text
+-- the words are this command
+abbrev pub IsAsked : List Word → Command Word → Type 0
+IsAsked words c = offered_of words ≡ Some c
 
--- the cause of each stop, with the names that failed before and now
+-- ---- the causes of stops
+
+-- the map that the command names is refused
+pub record HasBadMap (files : Option (List NamedFile)) (c : Command Word) (line : ℕ) (kind : MapKind) : Type 0 where
+  pub name : Word
+  pub named : map_name c ≡ Some name
+  pub refused : IsMapRefused files name line kind
+
+-- a place of `one` is outside the map
+pub record HasPlaceOutside (files : Option (List NamedFile)) (c : Command Word) : Type 0 where
+  pub name : Word
+  pub from : ℕ × ℕ
+  pub to : ℕ × ℕ
+  pub is_one : c ≡ One name from.0 from.1 to.0 to.1
+  pub grid : Terrain
+  pub map : IsMapRead files name grid
+  pub outside : ¬ (AreInside grid from to)
+
+-- the map was read, and the scenario that the command names is refused
+pub record HasBadScenario (files : Option (List NamedFile)) (c : Command Word) (line : ℕ) (kind : ScenKind) : Type 0 where
+  pub name : Word
+  pub scenario : Word
+  pub workers : ℕ
+  pub horizon : ℕ
+  pub kept : Option ℕ
+  pub is_run : c ≡ Run name scenario workers horizon kept
+  pub grid : Terrain
+  pub map : IsMapRead files name grid
+  pub refused : IsScenRefused files scenario grid kept line kind
+
+-- the map was read, and the orders that the command names are refused
+pub record HasBadOrders (files : Option (List NamedFile)) (c : Command Word) (line : ℕ) (kind : OrderKind) : Type 0 where
+  pub name : Word
+  pub orders : Word
+  pub workers : ℕ
+  pub horizon : ℕ
+  pub are_orders : c ≡ Orders name orders workers horizon
+  pub grid : Terrain
+  pub map : IsMapRead files name grid
+  pub refused : IsOrdersRefused files orders grid line kind
+
+-- the command names the file as its map, or, once the map was read, as its second file
+abbrev pub IsReadNow : Option (List NamedFile) → Command Word → Word → Type 0
+IsReadNow files c name =
+    (map_name c ≡ Some name)
+    ⊎ ((second_name c ≡ Some name) × (m : Word) × (map_name c ≡ Some m) × (g : Terrain) × IsMapRead files m g)
+
+-- the cause of a stop in a command, of which the files are told, with the names that failed before and now
+abbrev pub HasCauseIn : {N : Type 0} → (N → Word) → Option (List NamedFile) → Command Word → List Word → List Word → Stop N → Type 0
+HasCauseIn view files c failed now stops.NoCommand = ⊥
+HasCauseIn view files c failed now (stops.MapRefused line kind) = HasBadMap files c line kind × (now ≡ failed)
+HasCauseIn view files c failed now stops.OutsideMap = HasPlaceOutside files c × (now ≡ failed)
+HasCauseIn view files c failed now (stops.ScenRefused line kind) = HasBadScenario files c line kind × (now ≡ failed)
+HasCauseIn view files c failed now (stops.OrdersRefused line kind) = HasBadOrders files c line kind × (now ≡ failed)
+HasCauseIn view files c failed now (stops.NotFetched name) = IsReadNow files c (view name) × (now ≡ failed ++ view name ∷ [])
+HasCauseIn view files c failed now stops.NoMemory = Unit {0}
+
+-- the cause of each stop
 abbrev pub HasStopped : {N : Type 0} → (N → Word) → List Word → Option (List NamedFile) → List Word → List Word → Stop N → Type 0
 HasStopped view words files failed now stops.NoCommand = (offered_of words ≡ None) × (now ≡ failed)
-HasStopped view words files failed now (stops.MapRefused line kind) = (a : Asked) × IsAsked words a × IsMapRefused files a.map line kind × (now ≡ failed)
-HasStopped view words files failed now stops.OutsideMap = (a : Asked) × IsAsked words a × (g : Terrain) × IsMapRead files a.map g × (¬ (AreInside g a)) × (now ≡ failed)
-HasStopped view words files failed now (stops.NotFetched name) = (a : Asked) × IsAsked words a × (view name ≡ a.map) × (now ≡ failed ++ a.map ∷ [])
 HasStopped view words files failed now stops.NoMemory = Unit {0}
+HasStopped view words files failed now stop = (c : Command Word) × IsAsked words c × HasCauseIn view files c failed now stop
 
--- a text, or a stop with its cause
-abbrev pub HasPrepared : {N T : Type 0} → (N → Word) → (T → List ℕ) → List Word → Option (List NamedFile) → List Word → List Word → Result T (Stop N) → Type 0
-HasPrepared view bytes words files failed now (Ok text) = IsPrepared words files (bytes text) × (now ≡ failed)
+-- ---- outcomes
+
+-- the text that the words ask for
+pub record IsWanted (words : List Word) (files : Option (List NamedFile)) (text : List ℕ) : Type 0 where
+  pub command : Command Word
+  pub asked : IsAsked words command
+  pub due : IsDue files command text
+
+-- what there is to write, or a stop with its cause
+abbrev pub HasPrepared : {N J : Type 0} → (N → Word) → (J → List ℕ) → List Word → Option (List NamedFile) → List Word → List Word → Result J (Stop N) → Type 0
+HasPrepared view bytes words files failed now (Ok job) = IsWanted words files (bytes job) × (now ≡ failed)
 HasPrepared view bytes words files failed now (Err stop) = HasStopped view words files failed now stop
 
--- the map that a name was loaded as, or why not
-abbrev pub HasLoaded : {N : Type 0} → (N → Word) → Option (List NamedFile) → Word → List Word → List Word → Result Terrain (Stop N) → Type 0
-HasLoaded view files name failed now (Ok g) = IsMapRead files name g × (now ≡ failed)
-HasLoaded view files name failed now (Err (stops.MapRefused line kind)) = IsMapRefused files name line kind × (now ≡ failed)
-HasLoaded view files name failed now (Err (stops.NotFetched n)) = (view n ≡ name) × (now ≡ failed ++ name ∷ [])
-HasLoaded view files name failed now (Err stops.NoMemory) = Unit {0}
-HasLoaded view files name failed now (Err stop) = ⊥
-
--- the text between two places of a grid, or that one is outside
-abbrev pub IsTextFor : {N T : Type 0} → Terrain → ℕ × ℕ → ℕ × ℕ → Result (Vec ℕ T) (Stop N) → Type 0
-IsTextFor g from to (Ok text) = (IsInside g from × IsInside g to) × IsText g (request_of g from to) text.items
-IsTextFor g from to (Err stops.OutsideMap) = ¬ (IsInside g from × IsInside g to)
-IsTextFor g from to (Err stops.NoMemory) = Unit {0}
-IsTextFor g from to (Err stop) = ⊥
+-- the same for a command
+abbrev pub HasPreparedFor : {N J : Type 0} → (N → Word) → (J → List ℕ) → Option (List NamedFile) → Command Word → List Word → List Word → Result J (Stop N) → Type 0
+HasPreparedFor view bytes files c failed now (Ok job) = IsDue files c (bytes job) × (now ≡ failed)
+HasPreparedFor view bytes files c failed now (Err stop) = HasCauseIn view files c failed now stop
 
 -- the line of the stop went to `err`, or memory ran out for it
 abbrev pub HasReported : {N : Type 0} → (N → Word) → Stop N → Option (List ℕ) → ℕ → Option (List ℕ) → ℕ → Outcome → Type 0
@@ -80,25 +132,25 @@ abbrev pub HasStoppedAs : List Word → World → World → Outcome → Type 0
 HasStoppedAs words u v outcome = (stop : Stop Word) × (outcome ≡ outcome_of stop) × HasStopped (λ n. n) words u.files u.failed v.failed stop
     × (v.out ≡ u.out) × GotLine u.err u.err_faults (line_of (λ n. n) stop) v.err v.err_faults
 
+-- a front of a text that the words ask for was written, and this line to `err`
+pub record HasBrokenOff (words : List Word) (u v : World) (line : List ℕ) : Type 0 where
+  pub text : List ℕ
+  pub wanted : IsWanted words u.files text
+  pub front : WritesFront u.out text v.out
+  pub told : GotLine u.err u.err_faults line v.err v.err_faults
+  pub no_name : v.failed ≡ u.failed
+
+-- all of such a text was written, and nothing to `err`
+pub record IsDone (words : List Word) (u v : World) : Type 0 where
+  pub text : List ℕ
+  pub wanted : IsWanted words u.files text
+  pub written : Writes u.out text v.out
+  pub silent : v.err ≡ u.err
+  pub no_name : v.failed ≡ u.failed
+
 -- the outcome with all that a call has to have done for it
 abbrev pub HasEnded : List Word → World → World → Outcome → Type 0
-HasEnded words u v outcomes.Done = (text : List ℕ) × IsPrepared words u.files text × Writes u.out text v.out × (v.err ≡ u.err) × (v.failed ≡ u.failed)
-HasEnded words u v outcomes.WriteFault = (text : List ℕ) × IsPrepared words u.files text × WritesFront u.out text v.out × HasRisen u.out_faults v.out_faults
-    × GotLine u.err u.err_faults (codes "fleet: cannot write\n") v.err v.err_faults × (v.failed ≡ u.failed)
+HasEnded words u v outcomes.Done = IsDone words u v
+HasEnded words u v outcomes.WriteFault = HasBrokenOff words u v (codes "fleet: cannot write\n") × HasRisen u.out_faults v.out_faults
+HasEnded words u v outcomes.Memory = HasStoppedAs words u v outcomes.Memory ⊎ HasBrokenOff words u v (codes "fleet: out of memory\n")
 HasEnded words u v outcome = HasStoppedAs words u v outcome
-
--- the words are a command, and its file is there and accepted
-pub record IsGood (words : List Word) (files : List NamedFile) : Type 0 where
-  pub asked : Asked
-  pub command : IsAsked words asked
-  pub bytes : List ℕ
-  pub content : content_of files asked.map ≡ Some bytes
-  pub short : length bytes ≤ map_limit
-  pub grid : Terrain
-  pub read : map_of (lines_of bytes) ≡ Ok grid
-  pub inside : AreInside grid asked
-
--- good words and files are answered, unless a fetch or a write of `out` failed or memory ran out
-abbrev pub Completes : List Word → World → World → Outcome → Type 0
-Completes words u v outcome = (files : List NamedFile) → u.files ≡ Some files → IsGood words files → v.failed ≡ u.failed → ¬ (HasRisen u.out_faults v.out_faults)
-    → (outcome ≡ outcomes.Done) ⊎ (outcome ≡ outcomes.Memory)

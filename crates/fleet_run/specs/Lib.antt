@@ -1,10 +1,9 @@
-pub mod Sorting
-pub mod SortingView
-pub mod Options
-pub mod Words
 pub mod Offered
 pub mod Texts
+pub mod Files
+pub mod Due
 pub mod Stopped
-pub mod Asked
 pub mod Ended
-pub mod FirstTimes
+pub mod Good
+pub mod Jobs
+pub mod Writing

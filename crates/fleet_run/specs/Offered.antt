@@ -1,16 +1,16 @@
 -- The commands that the program does already.
 use Rattle.std.specs.Prelude.{Bool, true, false, List, Option, Some, None, if◌then◌else◌}
-use Rattle.fleet_run.specs.declared.command.Command.{Command}
-use Rattle.fleet_run.specs.declared.command.Command.TheVariants.{One, Run, Orders, Gen, Check, Long, Turns}
-use Rattle.fleet_run.specs.Sorting.{Word}
-use Rattle.fleet_run.specs.Words.{command_of}
+use Rattle.command_line.specs.declared.command.Command.{Command}
+use Rattle.command_line.specs.declared.command.Command.TheVariants.{One, Run, Orders, Gen, Check, Long, Turns}
+use Rattle.command_line.specs.Sorting.{Word}
+use Rattle.command_line.specs.Words.{command_of}
 
 -- a command that isn't offered yet is no command
 abbrev pub is_offered : {N : Type 0} → Command N → Bool
 is_offered (One m a b c d) = true
-is_offered (Run m s w h t) = false
-is_offered (Orders m o w h) = false
-is_offered (Gen w h p o s k l) = false
+is_offered (Run m s w h t) = true
+is_offered (Orders m o w h) = true
+is_offered (Gen w h p o s k l) = true
 is_offered (Check m o j h) = false
 is_offered (Long m o h) = false
 is_offered (Turns m o h) = false

@@ -1,28 +1,22 @@
-// The program behind `main`: the words of its command line, and the top call `fleet`.
+// The top call of the program behind `main`.
 //
-// The contract: `read_words` is the command that the words are, exactly; `fleet` ends with an outcome
-// that comes with its cause, with what went to `out` and to `err`, and good words and files are answered.
-// `sorting`, `options` and `words` read the command line; `load`, `search`, `text` and `one` prepare the
-// text of `one`, with `flood` for the search; `stop` and `report` are for a call that has none; `top` is the call.
+// The contract: `fleet` ends with an outcome that comes with its cause, with what went to `out` and to `err`; and good
+// words and files are answered.
+// `load` reads the files; `one` and `runs` plan; `prepare` does so for a command; `job` is what there is to write, and
+// `writing` writes it; `stop` and `report` are for a call that has nothing to write; `top` is the call.
 #![tactic(auto)]
 
-mod command;
-mod flood;
+mod job;
 mod load;
 mod one;
-mod options;
 mod outcome;
+mod prepare;
 mod report;
-mod search;
-mod sorting;
+mod runs;
 mod stop;
-#[cfg(test)]
-mod tests;
 mod text;
 mod top;
-mod words;
+mod writing;
 
-pub use command::Command;
 pub use outcome::Outcome;
 pub use top::fleet;
-pub use words::read_words;

@@ -1,24 +1,23 @@
-ghost use Rattle.std.specs.Prelude.{◌≡◌, ◌<◌, length, map, string_bytes, MatchOption};
-ghost use Rattle.fleet_run.specs.Asked.{IsInside, request_of};
-ghost use Rattle.fleet_run.specs.Ended.{IsTextFor, HasPrepared};
+ghost use Rattle.std.specs.Prelude.{◌≡◌, ◌<◌, length, IfOk, MatchOption};
+ghost use Rattle.fleet_run.specs.Due.{AreInside, request_of, walk_in, IsAnswer};
 
-use crate::command::Command;
-use crate::load::load_map;
-use crate::search::find_walk;
-use crate::stop::Stop;
-use crate::text::answer_text;
-use crate::words::read_words;
-use fleet_base::{Grid, Request};
-use fleet_io::Shelf;
+use fleet_base::{Entry, Grid, Memory, Request, Walk};
+use plain_book::PlainBook;
 use std::alloc::Global;
 
 // A place of a map: column and row.
 type Place = (u32, u32);
 
+// The caller of the one reply in an empty book.
+const CALLER: u32 = 0;
+
+// The last time at which the walk may arrive.
+const HORIZON: u32 = 8_000;
+
 // The request to go from a place to another one, where both are inside the map.
-fn request_of(grid: &Grid, from: Place, to: Place) -> Option<Request>
-    ensures { MatchOption result (¬ (IsInside grid.now from × IsInside grid.now to))
-        (λ q. (IsInside grid.now from × IsInside grid.now to) × (q ≡ request_of grid.now from to)
+pub fn request_of(grid: &Grid, from: Place, to: Place) -> Option<Request>
+    ensures { MatchOption result (¬ (AreInside grid.now from to))
+        (λ q. AreInside grid.now from to × (q ≡ request_of grid.now from to)
         × (q.start.0 < length grid.now.cells) × (q.goal.0 < length grid.now.cells)) }
 {
     if from.0 >= grid.width() || from.1 >= grid.height() {
@@ -35,53 +34,28 @@ fn request_of(grid: &Grid, from: Place, to: Place) -> Option<Request>
     })
 }
 
-// The text of the route from a place to another one.
-fn text_for<'a>(
-    alloc: Global,
-    grid: &Grid,
-    from: Place,
-    to: Place,
-) -> Result<Vec<u8>, Stop<&'a str>>
-    ensures { IsTextFor grid.now from to result }
+// The walk of an entry, where it is a commit.
+fn walk_of(entry: Entry) -> Option<Walk>
+    ensures { result ≡ walk_in entry }
 {
-    let Some(request) = request_of(grid, from, to) else {
-        return Err(Stop::OutsideMap);
-    };
-    let Ok(answer) = find_walk(alloc, grid, request) else {
-        return Err(Stop::NoMemory);
-    };
-    match answer_text(alloc, grid, answer) {
-        Ok(text) => Ok(text),
-        Err(_) => Err(Stop::NoMemory),
+    match entry {
+        Entry::Commit { walk, .. } => Some(walk),
+        _ => None,
     }
 }
 
-// The text to write, or why there is none.
-pub(crate) fn prepare<'a, H: Shelf>(
+// The walk of a request in an empty book, and the book that lends the grid.
+pub fn answer_one(
     alloc: Global,
-    words: &'a [String],
-    shelf: &mut H,
-) -> Result<Vec<u8>, Stop<&'a str>>
-    ensures told { H.told shelf.new ≡ H.told shelf.old }
-    ensures prepared { HasPrepared (λ n. n.now) (λ text. text.items) (map string_bytes words.now)
-        (H.told shelf.old) (H.failed shelf.old) (H.failed shelf.new) result }
+    grid: Grid,
+    request: Request,
+) -> Result<(PlainBook, Option<Walk>), Memory>
+    requires start { request.start.0 < length grid.cells }
+    requires goal { request.goal.0 < length grid.cells }
+    ensures grid { IfOk result (λ r. r.0.grid ≡ grid) }
+    ensures answer { IfOk result (λ r. IsAnswer grid request r.1) }
 {
-    let Ok(command) = read_words(alloc, words) else {
-        return Err(Stop::NoMemory);
-    };
-    let Some(command) = command else {
-        return Err(Stop::NoCommand);
-    };
-    let Command::One {
-        map,
-        from_x,
-        from_y,
-        to_x,
-        to_y,
-    } = command
-    else {
-        return Err(Stop::NoCommand);
-    };
-    let grid = load_map(alloc, shelf, map)?;
-    text_for(alloc, &grid, (from_x, from_y), (to_x, to_y))
+    let mut book = PlainBook::new(alloc, grid, HORIZON)?;
+    let entry = book.plan(CALLER, request)?;
+    Ok((book, walk_of(entry)))
 }

@@ -7,7 +7,8 @@ pub enum Outcome {
     Usage = 2,
     /// The map is refused, or longer than 2,097,152 bytes.
     MapBad = 3,
-    /// A coordinate is outside the map.
+    /// The scenario or the orders are refused, or longer than 16,777,216 bytes; or a coordinate of `one` is outside the
+    /// map.
     OrdersBad = 4,
     /// A file could not be fetched.
     ReadFault = 5,

@@ -1,5 +1,5 @@
-ghost use Rattle.std.specs.Prelude.{◌≡◌, ◌++◌, codes, decimal, IfOk};
-ghost use Rattle.fleet_run.specs.Stopped.{outcome_of, kind_name, line_of};
+ghost use Rattle.std.specs.Prelude.{◌≡◌, ◌++◌, codes, IfOk};
+ghost use Rattle.fleet_run.specs.Stopped.{outcome_of, map_kind_name, scen_kind_name, order_kind_name, fault_line, line_of};
 ghost use Rattle.fleet_run.specs.Ended.{GotLine, HasReported};
 
 use crate::outcome::Outcome;
@@ -7,10 +7,12 @@ use crate::stop::Stop;
 use fleet_io::Sink;
 use itoa::Buffer;
 use map_text::MapKind;
+use order_text::OrderKind;
+use scen_text::ScenKind;
 use std::alloc::{AllocError, Global};
 
-fn kind_name(kind: MapKind) -> &'static str
-    ensures { result.now ≡ kind_name kind }
+fn map_kind_name(kind: MapKind) -> &'static str
+    ensures { result.now ≡ map_kind_name kind }
 {
     match kind {
         MapKind::BadHeader => "BadHeader",
@@ -24,12 +26,40 @@ fn kind_name(kind: MapKind) -> &'static str
     }
 }
 
-fn map_line(alloc: Global, line: u32, kind: &str) -> Result<Vec<u8>, AllocError>
-    ensures { IfOk result (λ text.
-        text.items ≡ codes "fleet: map line " ++ decimal line ++ codes ": " ++ kind.now ++ codes "\n") }
+fn scen_kind_name(kind: ScenKind) -> &'static str
+    ensures { result.now ≡ scen_kind_name kind }
+{
+    match kind {
+        ScenKind::BadVersion => "BadVersion",
+        ScenKind::FieldCount => "FieldCount",
+        ScenKind::BadNumber => "BadNumber",
+        ScenKind::SizeDiffers => "SizeDiffers",
+        ScenKind::Outside => "Outside",
+        ScenKind::TooMany => "TooMany",
+    }
+}
+
+fn order_kind_name(kind: OrderKind) -> &'static str
+    ensures { result.now ≡ order_kind_name kind }
+{
+    match kind {
+        OrderKind::BadWord => "BadWord",
+        OrderKind::FieldCount => "FieldCount",
+        OrderKind::BadNumber => "BadNumber",
+        OrderKind::Outside => "Outside",
+        OrderKind::BadCancel => "BadCancel",
+        OrderKind::TooMany => "TooMany",
+    }
+}
+
+// The line of a fault of a text: which of the two files, its line, and what is wrong with it.
+fn fault_line(alloc: Global, file: &str, line: u32, kind: &str) -> Result<Vec<u8>, AllocError>
+    ensures { IfOk result (λ text. text.items ≡ fault_line file.now line kind.now) }
 {
     let mut number = Buffer::new();
-    let mut text = Vec::from_slice(alloc, b"fleet: map line ")?;
+    let mut text = Vec::from_slice(alloc, b"fleet: ")?;
+    text.extend_from_slice(file.as_bytes())?;
+    text.extend_from_slice(b" line ")?;
     text.extend_from_slice(number.format(line).as_bytes())?;
     text.extend_from_slice(b": ")?;
     text.extend_from_slice(kind.as_bytes())?;
@@ -51,8 +81,14 @@ fn line_of(alloc: Global, stop: Stop<&str>) -> Result<Vec<u8>, AllocError>
 {
     match stop {
         Stop::NoCommand => Vec::from_slice(alloc, b"fleet: the words are no command\n"),
-        Stop::MapRefused { line, kind } => map_line(alloc, line, kind_name(kind)),
+        Stop::MapRefused { line, kind } => fault_line(alloc, "map", line, map_kind_name(kind)),
         Stop::OutsideMap => Vec::from_slice(alloc, b"fleet: orders line 0: Outside\n"),
+        Stop::ScenRefused { line, kind } => {
+            fault_line(alloc, "orders", line, scen_kind_name(kind))
+        }
+        Stop::OrdersRefused { line, kind } => {
+            fault_line(alloc, "orders", line, order_kind_name(kind))
+        }
         Stop::NotFetched { name } => cannot_read_line(alloc, name),
         Stop::NoMemory => Vec::from_slice(alloc, b"fleet: out of memory\n"),
     }
@@ -65,6 +101,8 @@ fn outcome_of(stop: Stop<&str>) -> Outcome
         Stop::NoCommand => Outcome::Usage,
         Stop::MapRefused { .. } => Outcome::MapBad,
         Stop::OutsideMap => Outcome::OrdersBad,
+        Stop::ScenRefused { .. } => Outcome::OrdersBad,
+        Stop::OrdersRefused { .. } => Outcome::OrdersBad,
         Stop::NotFetched { .. } => Outcome::ReadFault,
         Stop::NoMemory => Outcome::Memory,
     }

@@ -1,9 +1,11 @@
 ghost use Rattle.std.specs.Prelude.{map, string_bytes};
-ghost use Rattle.fleet_run.specs.Ended.{World, HasEnded, Completes};
+ghost use Rattle.fleet_run.specs.Ended.{World, HasEnded};
+ghost use Rattle.fleet_run.specs.Good.{Completes};
 
-use crate::one::prepare;
 use crate::outcome::Outcome;
+use crate::prepare::prepare;
 use crate::report::{report, write_line};
+use crate::writing::{WriteStop, write_job};
 use fleet_io::{Shelf, Sink};
 use std::alloc::Global;
 
@@ -34,11 +36,15 @@ fn run<H: Shelf, S: Sink>(
 {
     match prepare(alloc, words, shelf) {
         Err(stop) => report(alloc, err, stop),
-        Ok(text) => match out.write(text.as_slice()) {
+        Ok(job) => match write_job(alloc, out, &job) {
             Ok(()) => Outcome::Done,
-            Err(_) => {
+            Err(WriteStop::SinkFailed) => {
                 write_line(err, b"fleet: cannot write\n");
                 Outcome::WriteFault
+            }
+            Err(WriteStop::NoMemory) => {
+                write_line(err, b"fleet: out of memory\n");
+                Outcome::Memory
             }
         },
     }

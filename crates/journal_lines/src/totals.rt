@@ -1,4 +1,4 @@
-ghost use Rattle.std.specs.Prelude.{◌≡◌, ◌+◌, ◌<◌, ◌≤◌, ◌-◌, ◌^◌};
+ghost use Rattle.std.specs.Prelude.{◌≡◌, ℕ, ◌+◌, ◌≤◌, ◌-◌};
 ghost use Rattle.fleet_base.specs.TimedWalk.{arrival};
 ghost use Rattle.journal_lines.specs.Totals.{no_totals, with_entry, with_answer, CountAtMost};
 
@@ -41,10 +41,11 @@ impl Totals {
         }
     }
 
-    // Counts one entry more, the one of number `n`.
+    // Counts one entry more.
     fn count_entry(&mut self, entry: &Entry)
         requires few { CountAtMost 32767 self.old }
-        ensures { self.new ≡ with_entry self.old entry.now }
+        ensures counted { self.new ≡ with_entry self.old entry.now }
+        ensures at_most { (n : ℕ) → CountAtMost n self.old → CountAtMost (n + 1) self.new }
     {
         match entry {
             Entry::Commit { walk, .. } => {
@@ -60,7 +61,8 @@ impl Totals {
     /// Counts one answer more.
     pub fn count(&mut self, answer: &Answer)
         requires few { CountAtMost 32767 self.old }
-        ensures { self.new ≡ with_answer self.old answer.now }
+        ensures counted { self.new ≡ with_answer self.old answer.now }
+        ensures at_most { (n : ℕ) → CountAtMost n self.old → CountAtMost (n + 1) self.new }
     {
         match answer {
             Answer::Made { entry, .. } => self.count_entry(entry),

@@ -1,0 +1,117 @@
+ghost use Rattle.std.specs.Prelude.{◌≡◌, ◌<◌, ◌≤◌, length, All, OnOk};
+ghost use Rattle.std.specs.List.{concat};
+ghost use Rattle.fleet_io.specs.Written.{Writes};
+ghost use Rattle.order_text.specs.Lanes.{all_orders, AreNumberedFrom};
+ghost use Rattle.lane_runs.specs.Answers.{order_of};
+ghost use Rattle.journal_lines.specs.Lines.{journal_lines, last_line};
+ghost use Rattle.fleet_run.specs.Texts.{answer_text};
+ghost use Rattle.fleet_run.specs.Jobs.{text_of, CanBeWritten};
+ghost use Rattle.fleet_run.specs.Writing.{IsCut};
+
+use crate::job::Job;
+use crate::text::answer_text;
+use fleet_base::{Grid, Memory, Walk};
+use fleet_io::Sink;
+use journal_lines::{Totals, push_last_line, push_line};
+use lane_runs::Answer;
+use order_text::Lane;
+use std::alloc::Global;
+
+// Why only a front of a text was written.
+#[derive(Clone, Copy)]
+pub enum WriteStop {
+    SinkFailed,
+    NoMemory,
+}
+
+impl From<Memory> for WriteStop {
+    ghost use Rattle.std.specs.Prelude.{◌≡◌};
+    ghost use Rattle.fleet_run.specs.declared.writing.WriteStop.TheVariants.{NoMemory};
+
+    ghost from_gives = { λ _ e. e ≡ NoMemory };
+
+    fn from(_want: Memory) -> WriteStop {
+        WriteStop::NoMemory
+    }
+}
+
+fn write_piece<S: Sink>(out: &mut S, piece: &[u8]) -> Result<(), WriteStop>
+    ensures written { OnOk result (Writes (S.told out.old) piece.now (S.told out.new)) }
+    ensures later { S.faults out.old ≤ S.faults out.new }
+    ensures cut { IsCut (S.told out.old) (S.faults out.old) piece.now (S.told out.new) (S.faults out.new) result }
+{
+    match out.write(piece) {
+        Ok(()) => Ok(()),
+        Err(_) => Err(WriteStop::SinkFailed),
+    }
+}
+
+// Writes the lines of a journal, each by one call, from one buffer.
+fn write_journal<S: Sink>(
+    alloc: Global,
+    out: &mut S,
+    grid: &Grid,
+    lanes: &[Lane],
+    answers: &[Answer],
+) -> Result<(), WriteStop>
+    requires numbered { AreNumberedFrom 0 lanes.now }
+    requires few { length answers.now ≤ 32767 }
+    requires orders { All (λ a. order_of a < length (all_orders lanes.now)) answers.now }
+    ensures written { OnOk result (Writes (S.told out.old) (concat (journal_lines grid.now lanes.now answers.now)) (S.told out.new)) }
+    ensures cut { IsCut (S.told out.old) (S.faults out.old) (concat (journal_lines grid.now lanes.now answers.now)) (S.told out.new) (S.faults out.new) result }
+{
+    let mut line = Vec::new(alloc);
+    let mut totals = Totals::none();
+    for answer in answers {
+        line.clear();
+        push_line(&mut line, grid, lanes, totals.cancelled, answer)?;
+        write_piece(out, line.as_slice())?;
+        totals.count(answer);
+    }
+    line.clear();
+    push_last_line(&mut line, &totals)?;
+    write_piece(out, line.as_slice())
+}
+
+fn write_reply<S: Sink>(
+    alloc: Global,
+    out: &mut S,
+    grid: &Grid,
+    answer: &Option<Walk>,
+) -> Result<(), WriteStop>
+    ensures written { OnOk result (Writes (S.told out.old) (answer_text grid.now answer.now) (S.told out.new)) }
+    ensures cut { IsCut (S.told out.old) (S.faults out.old) (answer_text grid.now answer.now) (S.told out.new) (S.faults out.new) result }
+{
+    let text = answer_text(alloc, grid, answer)?;
+    write_piece(out, text.as_slice())
+}
+
+fn write_last_line<S: Sink>(
+    alloc: Global,
+    out: &mut S,
+    totals: &Totals,
+) -> Result<(), WriteStop>
+    ensures written { OnOk result (Writes (S.told out.old) (last_line totals.now) (S.told out.new)) }
+    ensures cut { IsCut (S.told out.old) (S.faults out.old) (last_line totals.now) (S.told out.new) (S.faults out.new) result }
+{
+    let mut line = Vec::new(alloc);
+    push_last_line(&mut line, totals)?;
+    write_piece(out, line.as_slice())
+}
+
+// Writes the text of a job.
+pub fn write_job<S: Sink>(alloc: Global, out: &mut S, job: &Job) -> Result<(), WriteStop>
+    requires right { CanBeWritten job.now }
+    ensures written { OnOk result (Writes (S.told out.old) (text_of job.now) (S.told out.new)) }
+    ensures cut { IsCut (S.told out.old) (S.faults out.old) (text_of job.now) (S.told out.new) (S.faults out.new) result }
+{
+    match job {
+        Job::Reply { book, answer } => write_reply(alloc, out, book.grid(), answer),
+        Job::Journal {
+            book,
+            lanes,
+            answers,
+        } => write_journal(alloc, out, book.grid(), lanes, answers),
+        Job::LastLine { totals } => write_last_line(alloc, out, totals),
+    }
+}
