@@ -1,7 +1,4 @@
-pub mod OptionLemmas
-pub mod SortingLemmas
-pub mod OneLemmas
+pub mod PrepareLemmas
+pub mod RunLemmas
+pub mod WritingLemmas
 pub mod Complete
-pub mod FloodLemmas
-pub mod WayLemmas
-pub mod SideLemmas

@@ -1,5 +1,5 @@
 -- What a call of `fleet` leaves, by its outcome.
-use Rattle.std.specs.Prelude.{◌≡◌, ℕ, ◌≤◌, ◌⊎◌, ◌++◌, List, [], ◌∷◌, codes, Option, Some, None, Result, Ok, Err}
+use Rattle.std.specs.Prelude.{◌≡◌, ℕ, ◌≤◌, ◌⊎◌, ◌++◌, List, [], ◌∷◌, codes, MatchBool, Option, Some, None, Result, Ok, Err}
 use Rattle.fleet_base.specs.Terrain.{Terrain}
 use Rattle.fleet_io.specs.Counts.{raised}
 use Rattle.fleet_io.specs.Files.{NamedFile}
@@ -14,7 +14,7 @@ use Rattle.fleet_run.specs.declared.outcome.Outcome.{Outcome}
 use Rattle.fleet_run.specs.declared.outcome.Outcome.TheVariants as outcomes
 use Rattle.fleet_run.specs.declared.stop.Stop.{Stop}
 use Rattle.fleet_run.specs.declared.stop.Stop.TheVariants as stops
-use Rattle.fleet_run.specs.Offered.{offered_of}
+use Rattle.fleet_run.specs.Offered.{is_offered, offered_of}
 use Rattle.fleet_run.specs.Stopped.{outcome_of, line_of}
 use Rattle.fleet_run.specs.Files.{map_name, second_name, IsMapRead, IsMapRefused, IsScenRefused, IsOrdersRefused}
 use Rattle.fleet_run.specs.Due.{AreInside, IsDue}
@@ -120,6 +120,11 @@ HasPrepared view bytes words files failed now (Err stop) = HasStopped view words
 abbrev pub HasPreparedFor : {N J : Type 0} → (N → Word) → (J → List ℕ) → Option (List NamedFile) → Command Word → List Word → List Word → Result J (Stop N) → Type 0
 HasPreparedFor view bytes files c failed now (Ok job) = IsDue files c (bytes job) × (now ≡ failed)
 HasPreparedFor view bytes files c failed now (Err stop) = HasCauseIn view files c failed now stop
+
+-- the same for a command that may not be offered yet
+abbrev pub HasPreparedIfOffered : {N J : Type 0} → (N → Word) → (J → List ℕ) → Option (List NamedFile) → Command Word → List Word → List Word → Result J (Stop N) → Type 0
+HasPreparedIfOffered view bytes files c failed now result =
+    MatchBool (is_offered c) (HasPreparedFor view bytes files c failed now result) ((result ≡ Err stops.NoCommand) × (now ≡ failed))
 
 -- the line of the stop went to `err`, or memory ran out for it
 abbrev pub HasReported : {N : Type 0} → (N → Word) → Stop N → Option (List ℕ) → ℕ → Option (List ℕ) → ℕ → Outcome → Type 0

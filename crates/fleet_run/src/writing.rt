@@ -1,9 +1,10 @@
-ghost use Rattle.std.specs.Prelude.{◌≡◌, ◌<◌, ◌≤◌, length, All, OnOk};
+ghost use Rattle.std.specs.Prelude.{◌≡◌, ℕ, ◌+◌, ◌<◌, ◌≤◌, length, All, OnOk};
 ghost use Rattle.std.specs.List.{concat};
 ghost use Rattle.fleet_io.specs.Written.{Writes};
 ghost use Rattle.order_text.specs.Lanes.{all_orders, AreNumberedFrom};
 ghost use Rattle.lane_runs.specs.Answers.{order_of};
-ghost use Rattle.journal_lines.specs.Lines.{journal_lines, last_line};
+ghost use Rattle.journal_lines.specs.Totals.{with_answer, CountAtMost};
+ghost use Rattle.journal_lines.specs.Lines.{answer_line, journal_lines, last_line};
 ghost use Rattle.fleet_run.specs.Texts.{answer_text};
 ghost use Rattle.fleet_run.specs.Jobs.{text_of, CanBeWritten};
 ghost use Rattle.fleet_run.specs.Writing.{IsCut};
@@ -46,6 +47,44 @@ fn write_piece<S: Sink>(out: &mut S, piece: &[u8]) -> Result<(), WriteStop>
     }
 }
 
+// Writes the line of an answer from the buffer, and counts it.
+fn write_answer<S: Sink>(
+    out: &mut S,
+    line: &mut Vec<u8>,
+    grid: &Grid,
+    lanes: &[Lane],
+    totals: &mut Totals,
+    answer: &Answer,
+) -> Result<(), WriteStop>
+    requires numbered { AreNumberedFrom 0 lanes.now }
+    requires within { order_of answer.now < length (all_orders lanes.now) }
+    requires few { CountAtMost 32767 totals.old }
+    ensures written { OnOk result (Writes (S.told out.old) (answer_line grid.now lanes.now totals.old.cancelled answer.now) (S.told out.new)) }
+    ensures later { S.faults out.old ≤ S.faults out.new }
+    ensures cut { IsCut (S.told out.old) (S.faults out.old) (answer_line grid.now lanes.now totals.old.cancelled answer.now) (S.told out.new) (S.faults out.new) result }
+    ensures counted { OnOk result (totals.new ≡ with_answer totals.old answer.now) }
+    ensures at_most { OnOk result ((n : ℕ) → CountAtMost n totals.old → CountAtMost (n + 1) totals.new) }
+{
+    line.clear();
+    push_line(line, grid, lanes, totals.cancelled, answer)?;
+    write_piece(out, line.as_slice())?;
+    totals.count(answer);
+    Ok(())
+}
+
+fn write_totals<S: Sink>(
+    out: &mut S,
+    line: &mut Vec<u8>,
+    totals: &Totals,
+) -> Result<(), WriteStop>
+    ensures written { OnOk result (Writes (S.told out.old) (last_line totals.now) (S.told out.new)) }
+    ensures cut { IsCut (S.told out.old) (S.faults out.old) (last_line totals.now) (S.told out.new) (S.faults out.new) result }
+{
+    line.clear();
+    push_last_line(line, totals)?;
+    write_piece(out, line.as_slice())
+}
+
 // Writes the lines of a journal, each by one call, from one buffer.
 fn write_journal<S: Sink>(
     alloc: Global,
@@ -63,14 +102,9 @@ fn write_journal<S: Sink>(
     let mut line = Vec::new(alloc);
     let mut totals = Totals::none();
     for answer in answers {
-        line.clear();
-        push_line(&mut line, grid, lanes, totals.cancelled, answer)?;
-        write_piece(out, line.as_slice())?;
-        totals.count(answer);
+        write_answer(out, &mut line, grid, lanes, &mut totals, answer)?;
     }
-    line.clear();
-    push_last_line(&mut line, &totals)?;
-    write_piece(out, line.as_slice())
+    write_totals(out, &mut line, &totals)
 }
 
 fn write_reply<S: Sink>(
@@ -86,19 +120,6 @@ fn write_reply<S: Sink>(
     write_piece(out, text.as_slice())
 }
 
-fn write_last_line<S: Sink>(
-    alloc: Global,
-    out: &mut S,
-    totals: &Totals,
-) -> Result<(), WriteStop>
-    ensures written { OnOk result (Writes (S.told out.old) (last_line totals.now) (S.told out.new)) }
-    ensures cut { IsCut (S.told out.old) (S.faults out.old) (last_line totals.now) (S.told out.new) (S.faults out.new) result }
-{
-    let mut line = Vec::new(alloc);
-    push_last_line(&mut line, totals)?;
-    write_piece(out, line.as_slice())
-}
-
 // Writes the text of a job.
 pub fn write_job<S: Sink>(alloc: Global, out: &mut S, job: &Job) -> Result<(), WriteStop>
     requires right { CanBeWritten job.now }
@@ -112,6 +133,6 @@ pub fn write_job<S: Sink>(alloc: Global, out: &mut S, job: &Job) -> Result<(), W
             lanes,
             answers,
         } => write_journal(alloc, out, book.grid(), lanes, answers),
-        Job::LastLine { totals } => write_last_line(alloc, out, totals),
+        Job::LastLine { totals } => write_totals(out, &mut Vec::new(alloc), totals),
     }
 }

@@ -1,0 +1,49 @@
+-- What was prepared, and the causes of stops.
+use Rattle.std.proofs.Common.{◌≡◌, ℕ, List, Option, Some, None, Result, Ok, Err, refl, sym, ap, ◌∙◌, subst, inl, inr, true≢false}
+use Rattle.fleet_io.specs.Files.{NamedFile}
+use Rattle.command_line.specs.declared.command.Command.{Command}
+use Rattle.command_line.specs.declared.command.Command.TheVariants.{One, Run, Orders, Gen, Check, Long, Turns}
+use Rattle.command_line.specs.Sorting.{Word}
+use Rattle.command_line.specs.Words.{command_of}
+use Rattle.fleet_run.specs.declared.stop.Stop.{Stop}
+use Rattle.fleet_run.specs.declared.stop.Stop.TheVariants as stops
+use Rattle.fleet_run.specs.Offered.{is_offered, only_offered, offered_of}
+use Rattle.fleet_run.specs.Due.{IsDue}
+use Rattle.fleet_run.specs.Ended.{IsAsked, HasCauseIn, HasStopped, HasPrepared, HasPreparedFor, HasPreparedIfOffered}
+
+-- a cause in the command that the words are
+pub stopped_in : {N : Type 0} (view : N → Word) (words : List Word) (files : Option (List NamedFile)) (c : Command Word) (failed now : List Word) (stop : Stop N)
+    → IsAsked words c → HasCauseIn view files c failed now stop → HasStopped view words files failed now stop
+stopped_in view words files c failed now stops.NoCommand asked h = absurd h
+stopped_in view words files c failed now (stops.MapRefused line kind) asked h = (c, asked, h)
+stopped_in view words files c failed now stops.OutsideMap asked h = (c, asked, h)
+stopped_in view words files c failed now (stops.ScenRefused line kind) asked h = (c, asked, h)
+stopped_in view words files c failed now (stops.OrdersRefused line kind) asked h = (c, asked, h)
+stopped_in view words files c failed now (stops.NotFetched name) asked h = (c, asked, h)
+stopped_in view words files c failed now stops.NoMemory asked h = tt
+
+for_offered : {N J : Type 0} (view : N → Word) (bytes : J → List ℕ) (words : List Word) (files : Option (List NamedFile)) (c : Command Word) (failed now : List Word) (result : Result J (Stop N))
+    → IsAsked words c → HasPreparedFor view bytes files c failed now result → HasPrepared view bytes words files failed now result
+for_offered view bytes words files c failed now (Ok job) asked h = (record { command = c; asked = asked; due = h.0 }, h.1)
+for_offered view bytes words files c failed now (Err stop) asked h = stopped_in view words files c failed now stop asked h
+
+not_offered : {N J : Type 0} (view : N → Word) (bytes : J → List ℕ) (words : List Word) (files : Option (List NamedFile)) (failed now : List Word) (result : Result J (Stop N))
+    → offered_of words ≡ None → result ≡ Err stops.NoCommand → now ≡ failed → HasPrepared view bytes words files failed now result
+not_offered view bytes words files failed now result none is same = subst (HasPrepared view bytes words files failed now) (sym is) (none, same)
+
+-- the words are this command, offered or not
+pub prepared_for_words : {N J : Type 0} (view : N → Word) (bytes : J → List ℕ) (words : List Word) (files : Option (List NamedFile)) (c : Command Word) (failed now : List Word) (result : Result J (Stop N))
+    → command_of words ≡ Some c → HasPreparedIfOffered view bytes files c failed now result → HasPrepared view bytes words files failed now result
+prepared_for_words view bytes words files (One m a b x y) failed now result is h = for_offered view bytes words files (One m a b x y) failed now result (ap only_offered is) h
+prepared_for_words view bytes words files (Run m s w k t) failed now result is h = for_offered view bytes words files (Run m s w k t) failed now result (ap only_offered is) h
+prepared_for_words view bytes words files (Orders m o w k) failed now result is h = for_offered view bytes words files (Orders m o w k) failed now result (ap only_offered is) h
+prepared_for_words view bytes words files (Gen w k p n s t l) failed now result is h = for_offered view bytes words files (Gen w k p n s t l) failed now result (ap only_offered is) h
+prepared_for_words view bytes words files (Check m o j k) failed now result is h = not_offered view bytes words files failed now result (ap only_offered is) h.0 h.1
+prepared_for_words view bytes words files (Long m o k) failed now result is h = not_offered view bytes words files failed now result (ap only_offered is) h.0 h.1
+prepared_for_words view bytes words files (Turns m o k) failed now result is h = not_offered view bytes words files failed now result (ap only_offered is) h.0 h.1
+
+-- a cause is of the state before: where nothing failed in between
+pub cause_since : {N : Type 0} (view : N → Word) (files files_then : Option (List NamedFile)) (c : Command Word) (failed failed_then now : List Word) (stop : Stop N)
+    → files_then ≡ files → failed_then ≡ failed → HasCauseIn view files_then c failed_then now stop → HasCauseIn view files c failed now stop
+cause_since view files files_then c failed failed_then now stop same_files same h =
+    subst (λ (z : Option (List NamedFile) × List Word). HasCauseIn view z.0 c z.1 now stop) (λ j. (same_files j, same j)) h

@@ -1,0 +1,80 @@
+-- The run by one worker is printed in the order of its orders, and is a journal.
+use Rattle.std.proofs.Common.{◌≡◌, ℕ, zero, suc, ◌+◌, ◌<◌, ◌≤◌, ◌⊎◌, inl, inr, List, [], ◌∷◌, length, get_or, Some, refl, sym, ap, ◌∙◌, subst, arith}
+use Rattle.std.specs.Prelude.{All, AllPairs, slice_get}
+use Rattle.std.specs.List.{concat}
+use Rattle.std.proofs.lemmas.Option.{slice_get-get_or, slice_get_within, slice_get_cases}
+use Rattle.fleet_base.specs.declared.request.Entry.{Entry}
+use Rattle.fleet_base.specs.declared.request.Entry.TheVariants as E
+use Rattle.fleet_base.specs.Terrain.{Terrain}
+use Rattle.fleet_base.specs.History.{Past, nothing, followed_by, IsAllowed, IsStronglyAllowed, EachFollows, IsLegal, IsStrong}
+use Rattle.fleet_base.specs.Journal.{IsInOrder}
+use Rattle.order_text.specs.declared.order.Order.{Order}
+use Rattle.order_text.specs.declared.order.Order.TheVariants.{Plan, Cancel}
+use Rattle.order_text.specs.declared.lane.Lane.{Lane}
+use Rattle.order_text.specs.Lanes.{all_orders}
+use Rattle.lane_runs.specs.declared.answer.Answer.{Answer}
+use Rattle.lane_runs.specs.declared.answer.Answer.TheVariants.{Made, Gone}
+use Rattle.lane_runs.specs.Answers.{entries_made, order_of, Refused}
+use Rattle.lane_runs.specs.Runs.{IsRun, AreOfOneLane, KeepsLanes}
+use Rattle.plain_run.specs.PlainRun.{IsPlainAnswer, IsPlainRun}
+use Rattle.journal_lines.specs.Lines.{journal_lines}
+use Rattle.journal_lines.specs.Printing.{StandsBehind, GoneStandBehind, IsJournalText}
+use Rattle.fleet_run.specs.Due.{IsRunText}
+
+legal_from : (g : Terrain) (horizon : ℕ) (p : Past) (entries : List Entry) → EachFollows (IsStronglyAllowed g horizon) p entries → EachFollows (IsAllowed g horizon) p entries
+legal_from g horizon p [] h = tt
+legal_from g horizon p (e ∷ es) h = (h.0.0, legal_from g horizon (followed_by p e) es h.1)
+
+module _ (g : Terrain) (horizon : ℕ) (lanes : List Lane) (answers : List Answer) (plain : IsPlainRun g horizon (all_orders lanes) answers) where
+  -- the order that an answer answers
+  order_there : (k : ℕ) (a : Answer) → slice_get answers k ≡ Some a → (o : Order) × (slice_get (all_orders lanes) k ≡ Some o)
+  order_there k a at = elim (slice_get_cases (all_orders lanes) k).1 [
+    | inl here ↦ (here.0, here.2)
+    | inr past ↦ let over = past.0 in absurd (omega (arith, over, plain.whole, slice_get_within answers k a at))
+  ]
+
+  number_is : (k : ℕ) (a : Answer) → slice_get answers k ≡ Some a → order_of a ≡ k
+  number_is k a at = let there = order_there k a at in (plain.right.each k there.0 a there.1 at).0
+
+  number_at : (k : ℕ) (d : Answer) → k < length answers → order_of (get_or answers k d) ≡ k
+  number_at k d within = number_is k (get_or answers k d) (slice_get-get_or answers k d within)
+
+  pub numbers_within : All (λ a. order_of a < length (all_orders lanes)) answers
+  numbers_within k d within = let n = number_at k d within in omega (arith, plain.whole)
+
+  keeps : KeepsLanes lanes answers
+  keeps i j d less within one_lane = omega (arith, number_at i d (omega arith), number_at j d within)
+
+  -- nothing is refused before the first answer
+  none_first : (n target : ℕ) → slice_get answers 0 ≡ Some (Gone n target) → ⊥
+  none_first n target at =
+      let there = order_there 0 (Gone n target) at in
+      by_order there.0 (plain.right.each 0 there.0 (Gone n target) there.1 at).1
+    where
+      by_order : (o : Order) → IsPlainAnswer g horizon [] o (Gone n target) → ⊥
+      by_order (Plan q) h = h
+      by_order (Cancel t) h = let r = h.1 in let e = r.at in cc
+
+  gone : GoneStandBehind answers
+  gone zero n target at = absurd (none_first n target at)
+  gone (suc k) n target at = record {
+    place = k;
+    next = omega arith;
+    before = get_or answers k (Gone n target);
+    at = slice_get-get_or answers k (Gone n target) (omega (arith, slice_get_within answers (suc k) _ at));
+    order = omega (arith, number_at k (Gone n target) (omega (arith, slice_get_within answers (suc k) _ at)), number_is (suc k) _ at);
+  }
+
+  pub journal_of : IsRun lanes answers → IsStrong g horizon (entries_made answers) → IsInOrder (entries_made answers) → IsJournalText g horizon lanes (concat (journal_lines g lanes answers))
+  journal_of run strong in_order = record {
+    printed = answers;
+    run = run;
+    legal = legal_from g horizon nothing (entries_made answers) strong;
+    in_order = in_order;
+    keeps = keeps;
+    gone = gone;
+    says = refl;
+  }
+
+  pub text_of_run : IsRun lanes answers → IsStrong g horizon (entries_made answers) → IsInOrder (entries_made answers) → IsRunText g horizon lanes (concat (journal_lines g lanes answers))
+  text_of_run run strong in_order = record { answers = answers; plain = plain; says = refl; journal = journal_of run strong in_order }
