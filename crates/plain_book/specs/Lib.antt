@@ -2,3 +2,8 @@ pub mod BookState
 pub mod Replies
 pub mod History
 pub mod Resuming
+pub mod Kept
+pub mod Changes
+pub mod Found
+pub mod Entering
+pub mod Lent

@@ -1,8 +1,14 @@
-ghost use Rattle.std.specs.Prelude.{◌≡◌, ◌+◌, ◌<◌, ◌≤◌, [], length, IfOk, OnErr};
+ghost use Rattle.std.specs.Prelude.{◌≡◌, ◌+◌, ◌<◌, ◌≤◌, [], length, IfOk, OnOk, OnErr};
+ghost use Rattle.fleet_base.specs.Planned.{NoneFree};
 ghost use Rattle.fleet_base.specs.History.{IsLive};
 
-use fleet_base::{Entry, Grid, Live, Memory, Request, RouteId};
+use crate::finding::find_walk;
+use crate::records::empty_calendars;
+use crate::routes::{add_route, copy_of, end_route};
+use calendars::Calendar;
+use fleet_base::{Entry, Grid, Live, Memory, Request, RouteId, Walk};
 use std::alloc::Global;
+use std::collections::BTreeMap;
 use std::marker::Model;
 
 /// No live route has that id.
@@ -12,34 +18,62 @@ pub struct NotLive;
 /// The live routes of a grid, and the last stamp and the era of their history.
 #[derive(Drop)]
 pub struct PlainBook {
+    alloc: Global,
     grid: Grid,
     horizon: u32,
+    calendars: Vec<Calendar>,
+    routes: BTreeMap<RouteId, Walk>,
     stamp: u32,
     era: u64,
 }
 
 impl Model for PlainBook {
-    ghost use Rattle.std.specs.Prelude.{◌≤◌, []};
     ghost use Rattle.plain_book.specs.BookState.{BookState};
+    ghost use Rattle.plain_book.specs.Kept.{routes_of, IsKept};
 
     ghost Value = { BookState };
 
-    ghost view = { λ b. record { grid = b.grid; horizon = b.horizon; routes = []; stamp = b.stamp; era = b.era } };
+    ghost view = { λ b. record { grid = b.grid; horizon = b.horizon; routes = routes_of b.routes.entries; stamp = b.stamp; era = b.era } };
 
-    ghost invariant = { λ b. (1 ≤ b.horizon) × (b.horizon ≤ 8000) };
+    ghost invariant = { λ b. IsKept b.grid b.horizon b.stamp b.routes.entries b.calendars.items };
 }
 
 impl PlainBook {
+    ghost use Rattle.plain_book.specs.BookState.{IsOnSameGrid};
     ghost use Rattle.plain_book.specs.Replies.{IsReplyTo, EndsRoute};
     ghost use Rattle.plain_book.specs.History.{AnswersBook};
     ghost use Rattle.plain_book.specs.Resuming.{AreLive, HasRoutes};
+    ghost use Rattle.plain_book.specs.Found.{PlansWalk};
+    ghost use Rattle.plain_book.specs.Entering.{MayEnter, HasEntered};
 
     /// A book without routes, of era 0 and stamp 0. Walks arrive at the horizon or earlier.
     pub fn new(alloc: Global, grid: Grid, horizon: u32) -> Result<PlainBook, Memory>
         requires { (1 ≤ horizon) × (horizon ≤ 8000) }
         ensures { IfOk result (λ b. b ≡ record { grid = grid; horizon = horizon; routes = []; stamp = 0; era = 0 }) }
     {
-        Err(Memory)
+        PlainBook::without_routes(alloc, grid, horizon, 0, 0)
+    }
+
+    fn without_routes(
+        alloc: Global,
+        grid: Grid,
+        horizon: u32,
+        stamp: u32,
+        era: u64,
+    ) -> Result<PlainBook, Memory>
+        requires { (1 ≤ horizon) × (horizon ≤ 8000) }
+        ensures { IfOk result (λ b. b ≡ record { grid = grid; horizon = horizon; routes = []; stamp = stamp; era = era }) }
+    {
+        let calendars = empty_calendars(alloc, grid.cells().len())?;
+        Ok(PlainBook {
+            alloc,
+            grid,
+            horizon,
+            calendars,
+            routes: BTreeMap::new(alloc),
+            stamp,
+            era,
+        })
     }
 
     /// A book with these live routes, whose history had `stamp` as its last stamp and `era` cancels.
@@ -55,7 +89,12 @@ impl PlainBook {
         requires live { AreLive grid horizon routes.items stamp }
         ensures { IfOk result (λ b. HasRoutes b grid horizon routes.items stamp era) }
     {
-        Err(Memory)
+        let mut book = PlainBook::without_routes(alloc, grid, horizon, stamp, era)?;
+        for live in routes {
+            let Live { id, walk } = live;
+            book.enter(id, walk)?;
+        }
+        Ok(book)
     }
 
     /// Plans a request: commits the canonical walk among the live routes, or answers that no walk of the request is free.
@@ -66,9 +105,70 @@ impl PlainBook {
         requires room { self.old.stamp < 67108863 }
         ensures reply { IfOk result (λ e. IsReplyTo self.old caller request e self.new) }
         ensures history { IfOk result (λ e. AnswersBook self.old self.new e) }
+        ensures counts { IfOk result (λ _. (self.new.stamp ≡ self.old.stamp + 1) × (self.new.era ≡ self.old.era)) }
         ensures refused { OnErr result (self.new ≡ self.old) }
+        ensures frame { IsOnSameGrid self.old self.new }
     {
-        Err(Memory)
+        let Some(walk) = self.find_walk(request)? else {
+            return Ok(self.refuse(caller, request));
+        };
+        let id = RouteId {
+            stamp: self.stamp + 1,
+            caller,
+        };
+        let copy = copy_of(self.alloc, &walk)?;
+        self.enter(id, copy)?;
+        Ok(Entry::Commit {
+            id,
+            era: self.era,
+            request,
+            walk,
+        })
+    }
+
+    // The canonical walk among the live routes; none exactly where no walk of the request is free.
+    fn find_walk(&self, request: Request) -> Result<Option<Walk>, Memory>
+        requires start { request.start.0 < length self.now.grid.cells }
+        requires goal { request.goal.0 < length self.now.grid.cells }
+        ensures { IfOk result (λ found. PlansWalk self.now request found) }
+    {
+        find_walk(
+            self.alloc,
+            &self.calendars,
+            &self.grid,
+            request,
+            self.horizon,
+        )
+    }
+
+    // The reply where no walk is free.
+    fn refuse(&mut self, caller: u32, request: Request) -> Entry
+        requires room { self.old.stamp < 67108863 }
+        requires none_free { NoneFree self.old.grid self.old.horizon request self.old.routes }
+        ensures reply { IsReplyTo self.old caller request result self.new }
+        ensures history { AnswersBook self.old self.new result }
+        ensures counts { (self.new.stamp ≡ self.old.stamp + 1) × (self.new.era ≡ self.old.era) }
+        ensures frame { IsOnSameGrid self.old self.new }
+    {
+        self.stamp += 1;
+        Entry::NoRoute {
+            stamp: self.stamp,
+            caller,
+            era: self.era,
+            request,
+        }
+    }
+
+    // Takes a route in. After want of memory the book is as before.
+    fn enter(&mut self, id: RouteId, walk: Walk) -> Result<(), Memory>
+        requires { MayEnter self.old.routes (length self.old.grid.cells) id walk }
+        ensures ok { OnOk result (HasEntered self.old id walk self.new) }
+        ensures refused { OnErr result (self.new ≡ self.old) }
+        ensures frame { IsOnSameGrid self.old self.new }
+    {
+        add_route(self.alloc, &mut self.calendars, &mut self.routes, id, walk)?;
+        self.stamp = self.stamp.max(id.stamp);
+        Ok(())
     }
 
     /// Takes a live route out, which raises the era by 1. `NotLive` exactly where no live route has the id; the book is
@@ -77,11 +177,17 @@ impl PlainBook {
         requires { self.old.era < 1099511627775 }
         ensures ok { IfOk result (λ e. EndsRoute self.old id e self.new) }
         ensures history { IfOk result (λ e. AnswersBook self.old self.new e) }
+        ensures counts { IfOk result (λ _. (self.new.stamp ≡ self.old.stamp) × (self.new.era ≡ self.old.era + 1)) }
+        ensures frame { IsOnSameGrid self.old self.new }
         ensures refused { OnErr result (self.new ≡ self.old) }
         ensures not_live { OnErr result (¬ (IsLive id self.old.routes)) }
     {
-        let _ = &self.era;
-        Err(NotLive)
+        if !end_route(&mut self.calendars, &mut self.routes, id) {
+            return Err(NotLive);
+        }
+        let entry = Entry::Cancel { id, era: self.era };
+        self.era += 1;
+        Ok(entry)
     }
 
     /// The grid.

@@ -1,0 +1,12 @@
+pub mod Members
+pub mod Placing
+pub mod Alike
+pub mod KeptTraffic
+pub mod Keeping
+pub mod Searching
+pub mod Entries
+pub mod Answering
+pub mod Histories
+pub mod Books
+pub mod Entering
+pub mod Resuming
