@@ -5,11 +5,13 @@ use Rattle.command_line.specs.declared.command.Command.{Command}
 use Rattle.command_line.specs.declared.command.Command.TheVariants.{One, Run, Orders, Gen, Check, Long, Turns}
 use Rattle.command_line.specs.Sorting.{Word}
 use Rattle.command_line.specs.Words.{command_of}
+use Rattle.fleet_run.specs.declared.outcome.Outcome.{Outcome}
 use Rattle.fleet_run.specs.declared.stop.Stop.{Stop}
 use Rattle.fleet_run.specs.declared.stop.Stop.TheVariants as stops
 use Rattle.fleet_run.specs.Offered.{is_offered, only_offered, offered_of}
 use Rattle.fleet_run.specs.Due.{IsDue}
-use Rattle.fleet_run.specs.Ended.{IsAsked, HasCauseIn, HasStopped, HasPrepared, HasPreparedFor, HasPreparedIfOffered}
+use Rattle.fleet_run.specs.Stopped.{outcome_of, line_of}
+use Rattle.fleet_run.specs.Ended.{World, GotLine, HasReported, HasEnded, IsAsked, HasCauseIn, HasStopped, HasPrepared, HasPreparedFor, HasPreparedIfOffered}
 
 -- a cause in the command that the words are
 pub stopped_in : {N : Type 0} (view : N → Word) (words : List Word) (files : Option (List NamedFile)) (c : Command Word) (failed now : List Word) (stop : Stop N)
@@ -47,3 +49,20 @@ pub cause_since : {N : Type 0} (view : N → Word) (files files_then : Option (L
     → files_then ≡ files → failed_then ≡ failed → HasCauseIn view files_then c failed_then now stop → HasCauseIn view files c failed now stop
 cause_since view files files_then c failed failed_then now stop same_files same h =
     subst (λ (z : Option (List NamedFile) × List Word). HasCauseIn view z.0 c z.1 now stop) (λ j. (same_files j, same j)) h
+
+-- ---- the call
+
+-- a stop that was reported, and nothing written
+pub stopped : {N : Type 0} (view : N → Word) (words : List Word) (u v : World) (stop : Stop N) (outcome : Outcome) → HasStopped view words u.files u.failed v.failed stop → v.out ≡ u.out
+    → HasReported view stop u.err u.err_faults v.err v.err_faults outcome → HasEnded words u v outcome
+stopped {N = N} view words u v stop outcome cause same (inl told) = subst (HasEnded words u v) (sym told.0) (by_stop stop cause told.1)
+  where
+    by_stop : (s : Stop N) → HasStopped view words u.files u.failed v.failed s → GotLine u.err u.err_faults (line_of view s) v.err v.err_faults → HasEnded words u v (outcome_of s)
+    by_stop stops.NoCommand c l = (stops.NoCommand, refl, c, same, l)
+    by_stop (stops.MapRefused line kind) c l = (stops.MapRefused line kind, refl, c, same, l)
+    by_stop stops.OutsideMap c l = (stops.OutsideMap, refl, c, same, l)
+    by_stop (stops.ScenRefused line kind) c l = (stops.ScenRefused line kind, refl, c, same, l)
+    by_stop (stops.OrdersRefused line kind) c l = (stops.OrdersRefused line kind, refl, c, same, l)
+    by_stop (stops.NotFetched name) c l = (stops.NotFetched (view name), refl, c, same, l)
+    by_stop stops.NoMemory c l = inl (stops.NoMemory, refl, tt, same, l)
+stopped view words u v stop outcome cause same (inr told) = subst (HasEnded words u v) (sym told.0) (inl (stops.NoMemory, refl, tt, same, told.1))
