@@ -32,7 +32,7 @@ pub struct Ended {
 }
 
 /// The room of each sink, in bytes.
-pub const ROOM: usize = 65_536;
+pub const ROOM: usize = 262_144;
 
 /// A sink without bytes that has room, and whose writes of these numbers fail.
 pub fn sink(alloc: Global, failing: &[u32]) -> Result<MemSink, Memory>
@@ -45,22 +45,60 @@ pub fn sink(alloc: Global, failing: &[u32]) -> Result<MemSink, Memory>
     Ok(sink)
 }
 
-/// The call of a line, whose words are parted by single spaces, with one file `m.map`.
-pub fn call(alloc: Global, line: &str, map: &[u8], failing: Failing<'_>) -> Result<Ended, Memory>
-    ensures { IfOk result (λ e. e.outcome ≡ Done → e.err.bytes ≡ []) }
-{
+/// The files that a call finds: a map `m.map`, and one more.
+#[derive(Clone, Copy)]
+pub struct Files<'a> {
+    pub map: &'a [u8],
+    pub second_name: &'a str,
+    pub second: &'a [u8],
+}
+
+fn words_of(alloc: Global, line: &str) -> Result<Vec<String>, Memory> {
     let mut words = Vec::new(alloc);
     for word in line.split(' ') {
         words.push(String::from_str(alloc, word)?)?;
     }
-    let mut files = Vec::new(alloc);
-    files.push((
+    Ok(words)
+}
+
+fn shelf_of(alloc: Global, files: Files<'_>, failing: &[u32]) -> Result<MemShelf, Memory> {
+    let mut named = Vec::new(alloc);
+    named.push((
         String::from_str(alloc, "m.map")?,
-        Vec::from_slice(alloc, map)?,
+        Vec::from_slice(alloc, files.map)?,
     ))?;
-    let mut shelf = MemShelf::new(alloc, files, Vec::from_slice(alloc, failing.fetches)?);
+    named.push((
+        String::from_str(alloc, files.second_name)?,
+        Vec::from_slice(alloc, files.second)?,
+    ))?;
+    Ok(MemShelf::new(alloc, named, Vec::from_slice(alloc, failing)?))
+}
+
+/// The call of a line, whose words are parted by single spaces, with two files.
+pub fn call_on(
+    alloc: Global,
+    line: &str,
+    files: Files<'_>,
+    failing: Failing<'_>,
+) -> Result<Ended, Memory>
+    ensures { IfOk result (λ e. e.outcome ≡ Done → e.err.bytes ≡ []) }
+{
+    let words = words_of(alloc, line)?;
+    let mut shelf = shelf_of(alloc, files, failing.fetches)?;
     let mut out = sink(alloc, failing.out)?;
     let mut err = sink(alloc, failing.err)?;
     let outcome = fleet(alloc, &words, &mut shelf, &mut out, &mut err);
     Ok(Ended { outcome, out, err })
+}
+
+/// The same with a map alone.
+pub fn call(alloc: Global, line: &str, map: &[u8], failing: Failing<'_>) -> Result<Ended, Memory>
+    ensures { IfOk result (λ e. e.outcome ≡ Done → e.err.bytes ≡ []) }
+{
+    let files = Files {
+        map,
+        second_name: "o.txt",
+        second: b"",
+    };
+    call_on(alloc, line, files, failing)
 }

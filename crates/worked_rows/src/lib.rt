@@ -8,8 +8,12 @@ mod calling;
 #[cfg(test)]
 mod faults;
 #[cfg(test)]
+mod generated;
+#[cfg(test)]
+mod journals;
+#[cfg(test)]
 mod maps;
 #[cfg(test)]
 mod routes;
 
-pub use calling::{CORRIDOR, Ended, Failing, NOTHING_FAILS, ROOM, call, sink};
+pub use calling::{CORRIDOR, Ended, Failing, Files, NOTHING_FAILS, ROOM, call, call_on, sink};
