@@ -1,9 +1,9 @@
 -- Good words and files are answered.
-use Rattle.std.proofs.Common.{◌≡◌, ℕ, ◌<◌, ◌≤◌, ◌⊎◌, List, [], ◌∷◌, ◌++◌, length, Option, Some, None, Result, Ok, Err, refl, sym, ap, subst, ◌∙◌, inl, inr, arith}
+use Rattle.std.proofs.Common.{◌≡◌, ℕ, List, [], ◌∷◌, ◌++◌, length, Option, Some, None, Result, Ok, Err, refl, sym, ap, subst, ◌∙◌, inl, inr, arith}
 use Rattle.std.proofs.lemmas.List.{length-append}
 use Rattle.std.proofs.lemmas.Option.{same_Some}
 use Rattle.fleet_base.specs.Terrain.{Terrain}
-use Rattle.fleet_io.specs.Files.{NamedFile, content_of, IsFetched, IsTooLong}
+use Rattle.fleet_io.specs.Files.{NamedFile, IsFetched, IsTooLong}
 use Rattle.text_lines.specs.Lines.{lines_of}
 use Rattle.text_lines.specs.Faults.{Fault}
 use Rattle.map_text.specs.declared.fault.MapKind.{MapKind}
@@ -20,8 +20,7 @@ use Rattle.fleet_run.specs.declared.outcome.Outcome.TheVariants as outcomes
 use Rattle.fleet_run.specs.declared.stop.Stop.{Stop}
 use Rattle.fleet_run.specs.declared.stop.Stop.TheVariants as stops
 use Rattle.fleet_run.specs.Stopped.{outcome_of}
-use Rattle.fleet_run.specs.Offered.{offered_of}
-use Rattle.fleet_run.specs.Files.{map_limit, second_limit, map_name, second_name, IsMapRead, IsMapRefused, IsScenRefused, IsOrdersRefused}
+use Rattle.fleet_run.specs.Files.{map_limit, second_limit, IsMapRead, IsMapRefused, IsScenRefused, IsOrdersRefused}
 use Rattle.fleet_run.specs.Due.{AreInside}
 use Rattle.fleet_run.specs.Ended.{World, IsAsked, HasBadMap, HasPlaceOutside, HasBadScenario, HasBadOrders, HasCauseIn, HasStopped, HasStoppedAs, HasEnded}
 use Rattle.fleet_run.specs.Good.{HasFile, HasMap, HasScenario, HasOrders, AreAccepted, IsGood, Completes}

@@ -1,5 +1,5 @@
 -- What was prepared, and the causes of stops.
-use Rattle.std.proofs.Common.{◌≡◌, ℕ, List, Option, Some, None, Result, Ok, Err, refl, sym, ap, ◌∙◌, subst, inl, inr, true≢false}
+use Rattle.std.proofs.Common.{◌≡◌, ℕ, List, Option, Some, None, Result, Ok, Err, refl, sym, ap, subst, inl, inr}
 use Rattle.fleet_io.specs.Files.{NamedFile}
 use Rattle.command_line.specs.declared.command.Command.{Command}
 use Rattle.command_line.specs.declared.command.Command.TheVariants.{One, Run, Orders, Gen, Check, Long, Turns}
@@ -8,8 +8,7 @@ use Rattle.command_line.specs.Words.{command_of}
 use Rattle.fleet_run.specs.declared.outcome.Outcome.{Outcome}
 use Rattle.fleet_run.specs.declared.stop.Stop.{Stop}
 use Rattle.fleet_run.specs.declared.stop.Stop.TheVariants as stops
-use Rattle.fleet_run.specs.Offered.{is_offered, only_offered, offered_of}
-use Rattle.fleet_run.specs.Due.{IsDue}
+use Rattle.fleet_run.specs.Offered.{only_offered, offered_of}
 use Rattle.fleet_run.specs.Stopped.{outcome_of, line_of}
 use Rattle.fleet_run.specs.Ended.{World, GotLine, HasReported, HasEnded, IsAsked, HasCauseIn, HasStopped, HasPrepared, HasPreparedFor, HasPreparedIfOffered}
 

@@ -1,29 +1,28 @@
 -- The run by one worker is printed in the order of its orders, and is a journal.
-use Rattle.std.proofs.Common.{◌≡◌, ℕ, zero, suc, ◌+◌, ◌<◌, ◌≤◌, ◌⊎◌, inl, inr, List, [], ◌∷◌, ◌++◌, length, take, get_or, Some, refl, sym, ap, ◌∙◌, subst, arith}
-use Rattle.std.specs.Prelude.{All, AllPairs, slice_get}
+use Rattle.std.proofs.Common.{◌≡◌, ℕ, zero, suc, ◌+◌, ◌<◌, ◌≤◌, inl, inr, List, [], ◌∷◌, ◌++◌, length, take, get_or, Some, refl, sym, ap, ◌∙◌, subst, arith}
+use Rattle.std.specs.Prelude.{All, slice_get}
 use Rattle.std.specs.List.{concat}
 use Rattle.std.proofs.lemmas.List.{take_more}
 use Rattle.std.proofs.lemmas.List.Sums.{fold-append}
 use Rattle.std.proofs.lemmas.Option.{slice_get-get_or, slice_get_within, slice_get_cases}
 use Rattle.fleet_base.specs.declared.request.Entry.{Entry}
-use Rattle.fleet_base.specs.declared.request.Entry.TheVariants as E
 use Rattle.fleet_base.specs.Terrain.{Terrain}
-use Rattle.fleet_base.specs.History.{Past, nothing, followed_by, IsAllowed, IsStronglyAllowed, EachFollows, IsLegal, IsStrong}
+use Rattle.fleet_base.specs.History.{Past, nothing, followed_by, IsAllowed, IsStronglyAllowed, EachFollows, IsStrong}
 use Rattle.fleet_base.specs.Journal.{IsInOrder}
 use Rattle.order_text.specs.declared.order.Order.{Order}
 use Rattle.order_text.specs.declared.order.Order.TheVariants.{Plan, Cancel}
 use Rattle.order_text.specs.declared.lane.Lane.{Lane}
 use Rattle.order_text.specs.Lanes.{all_orders, AreNumberedFrom, AreLanes}
 use Rattle.lane_runs.specs.declared.answer.Answer.{Answer}
-use Rattle.lane_runs.specs.declared.answer.Answer.TheVariants.{Made, Gone}
-use Rattle.lane_runs.specs.Answers.{entries_made, order_of, Refused}
-use Rattle.lane_runs.specs.Runs.{IsRun, AreOfOneLane, KeepsLanes}
+use Rattle.lane_runs.specs.declared.answer.Answer.TheVariants.{Gone}
+use Rattle.lane_runs.specs.Answers.{entries_made, order_of}
+use Rattle.lane_runs.specs.Runs.{IsRun, KeepsLanes}
 use Rattle.plain_book.specs.BookState.{BookState}
 use Rattle.plain_run.specs.PlainRun.{IsPlainAnswer, IsPlainRun}
 use Rattle.journal_lines.specs.declared.totals.Totals.{Totals}
 use Rattle.journal_lines.specs.Totals.{no_totals, with_answer, totals_of}
 use Rattle.journal_lines.specs.Lines.{journal_lines, last_line}
-use Rattle.journal_lines.specs.Printing.{StandsBehind, GoneStandBehind, IsJournalText}
+use Rattle.journal_lines.specs.Printing.{GoneStandBehind, IsJournalText}
 use Rattle.fleet_run.specs.Due.{IsRunText, IsLastLine}
 
 legal_from : (g : Terrain) (horizon : ℕ) (p : Past) (entries : List Entry) → EachFollows (IsStronglyAllowed g horizon) p entries → EachFollows (IsAllowed g horizon) p entries
@@ -93,7 +92,7 @@ module _ (g : Terrain) (horizon : ℕ) (lanes : List Lane) (answers : List Answe
       let grid : book.grid ≡ g = ap (λ (b : BookState). b.grid) is in
       let same : book.horizon ≡ horizon = ap (λ (b : BookState). b.horizon) is in
       text_of_run g horizon lanes answers (subst (λ (z : Terrain × ℕ). IsPlainRun z.0 z.1 (all_orders lanes) answers) (λ j. (grid j, same j)) plain) run
-        (subst (λ (z : Terrain × ℕ). IsStrong z.0 z.1 (entries_made answers)) (λ j. (grid j, same j)) strong) in_order
+      (subst (λ (z : Terrain × ℕ). IsStrong z.0 z.1 (entries_made answers)) (λ j. (grid j, same j)) strong) in_order
 
   pub journal_text : (new : BookState) → new.grid ≡ book.grid → IsPlainRun book.grid book.horizon (all_orders lanes) answers → IsRun lanes answers → IsStrong book.grid book.horizon (entries_made answers)
       → IsInOrder (entries_made answers) → IsRunText g horizon lanes (concat (journal_lines new.grid lanes answers))
@@ -104,8 +103,12 @@ module _ (g : Terrain) (horizon : ℕ) (lanes : List Lane) (answers : List Answe
       → IsInOrder (entries_made answers) → IsLastLine g horizon lanes (last_line t)
   last_text t counted plain run strong in_order =
       let text = run_text plain run strong in_order in
-      record { answers = answers; plain = subst (λ (z : Terrain × ℕ). IsPlainRun z.0 z.1 (all_orders lanes) answers) (λ j. (ap (λ (b : BookState). b.grid) is j, ap (λ (b : BookState). b.horizon) is j)) plain;
-        says = ap last_line counted; journal = text.journal }
+      record {
+        answers = answers;
+        plain = subst (λ (z : Terrain × ℕ). IsPlainRun z.0 z.1 (all_orders lanes) answers) (λ j. (ap (λ (b : BookState). b.grid) is j, ap (λ (b : BookState). b.horizon) is j)) plain;
+        says = ap last_line counted;
+        journal = text.journal;
+      }
 
 pub can_be_written : (g : Terrain) (horizon cells : ℕ) (lanes : List Lane) (answers : List Answer) → AreLanes cells lanes → IsPlainRun g horizon (all_orders lanes) answers
     → AreNumberedFrom 0 lanes × (length answers ≤ 32767) × All (λ a. order_of a < length (all_orders lanes)) answers

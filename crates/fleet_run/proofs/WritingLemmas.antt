@@ -5,7 +5,6 @@ use Rattle.std.specs.List.{concat}
 use Rattle.std.specs.Option.{option_map}
 use Rattle.std.proofs.lemmas.List.{drop_more}
 use Rattle.fleet_base.specs.Terrain.{Terrain}
-use Rattle.fleet_io.specs.Counts.{raised}
 use Rattle.fleet_io.specs.Written.{Writes, WritesFront}
 use Rattle.order_text.specs.declared.lane.Lane.{Lane}
 use Rattle.lane_runs.specs.declared.answer.Answer.{Answer}
@@ -82,20 +81,20 @@ module _ (g : Terrain) (lanes : List Lane) (answers : List Answer) (old middle n
       → Writes middle (answer_line g lanes t.cancelled a) new → faults_then ≤ faults_now → u ≡ with_answer t a → IsWritingOn old faults new faults_now text (rest_from u (k + 1))
   answer_written t u k a was within is wrote later counted =
       subst (λ (x : Totals). IsWritingOn old faults new faults_now text (rest_from x (k + 1))) (sym counted)
-        (write_goes_on old middle new faults faults_then faults_now text (answer_line g lanes t.cancelled a) (rest_from (with_answer t a) (k + 1))
-          (subst (IsWritingOn old faults middle faults_then text) (next_line t k a within is) was) wrote later)
+      (write_goes_on old middle new faults faults_then faults_now text (answer_line g lanes t.cancelled a) (rest_from (with_answer t a) (k + 1))
+      (subst (IsWritingOn old faults middle faults_then text) (next_line t k a within is) was) wrote later)
 
   pub answer_cut : {T : Type 0} (t : Totals) (k : ℕ) (a : Answer) (result : Result T WriteStop) → IsWritingOn old faults middle faults_then text (rest_from t k) → k < length answers → a ≡ get_or answers k a
       → IsCut middle faults_then (answer_line g lanes t.cancelled a) new faults_now result → IsCut old faults text new faults_now result
   answer_cut t k a result was within is cut =
       write_fails old middle new faults faults_then faults_now text (answer_line g lanes t.cancelled a) (rest_from (with_answer t a) (k + 1)) result
-        (subst (IsWritingOn old faults middle faults_then text) (next_line t k a within is) was) cut
+      (subst (IsWritingOn old faults middle faults_then text) (next_line t k a within is) was) cut
 
   pub totals_written : {T : Type 0} (t : Totals) (k : ℕ) (result : Result T WriteStop) → IsWritingOn old faults middle faults_then text (rest_from t k) → length answers ≤ k
       → OnOk result (Writes middle (last_line t) new) → OnOk result (Writes old text new)
   totals_written t k (Ok done) was over wrote =
       write_ends old new faults faults_then text [] refl
-        (write_goes_on old middle new faults faults_then faults_then text (last_line t) [] (subst (IsWritingOn old faults middle faults_then text) (no_line t k over) was) wrote (omega arith))
+      (write_goes_on old middle new faults faults_then faults_then text (last_line t) [] (subst (IsWritingOn old faults middle faults_then text) (no_line t k over) was) wrote (omega arith))
   totals_written t k (Err stop) was over wrote = tt
 
   pub totals_cut : {T : Type 0} (t : Totals) (k : ℕ) (result : Result T WriteStop) → IsWritingOn old faults middle faults_then text (rest_from t k) → length answers ≤ k

@@ -1,5 +1,5 @@
 -- The files that the words name: what was read of them, and why one was refused.
-use Rattle.std.specs.Prelude.{◌≡◌, ℕ, ◌<◌, ◌⊎◌, List, Option, Some, None, Ok, Err}
+use Rattle.std.specs.Prelude.{◌≡◌, ℕ, ◌⊎◌, List, Option, Some, None, Ok, Err}
 use Rattle.fleet_base.specs.declared.request.Request.{Request}
 use Rattle.fleet_base.specs.Terrain.{Terrain}
 use Rattle.fleet_io.specs.Files.{NamedFile, IsFetched, IsTooLong}

@@ -19,5 +19,7 @@ pub enum Job {
         answers: Vec<Answer>,
     },
     // The last line of a journal.
-    LastLine { totals: Totals },
+    LastLine {
+        totals: Totals,
+    },
 }

@@ -17,6 +17,7 @@ use std::alloc::Global;
 
 // The greatest numbers of bytes of a map, and of a scenario or orders.
 const MAP_LIMIT: usize = 2_097_152;
+
 const SECOND_LIMIT: usize = 16_777_216;
 
 // The map of the file of that name.

@@ -15,7 +15,6 @@ use crate::one::{answer_one, request_of};
 use crate::runs::{journal_alone, last_line_alone};
 use crate::stop::Stop;
 use command_line::{Command, read_words};
-
 use fleet_io::Shelf;
 use order_text::lanes_of;
 use request_maker::generate;

@@ -72,11 +72,7 @@ fn write_answer<S: Sink>(
     Ok(())
 }
 
-fn write_totals<S: Sink>(
-    out: &mut S,
-    line: &mut Vec<u8>,
-    totals: &Totals,
-) -> Result<(), WriteStop>
+fn write_totals<S: Sink>(out: &mut S, line: &mut Vec<u8>, totals: &Totals) -> Result<(), WriteStop>
     ensures written { OnOk result (Writes (S.told out.old) (last_line totals.now) (S.told out.new)) }
     ensures cut { IsCut (S.told out.old) (S.faults out.old) (last_line totals.now) (S.told out.new) (S.faults out.new) result }
 {

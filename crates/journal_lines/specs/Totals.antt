@@ -1,8 +1,8 @@
 -- What the last line of a journal tells.
-use Rattle.std.specs.Prelude.{◌≡◌, ℕ, ◌+◌, ◌*◌, ◌-◌, ◌≤◌, List, fold, length, max}
+use Rattle.std.specs.Prelude.{ℕ, ◌+◌, ◌*◌, ◌-◌, ◌≤◌, List, fold, max}
 use Rattle.fleet_base.specs.declared.request.Entry.{Entry}
 use Rattle.fleet_base.specs.declared.request.Entry.TheVariants.{Commit, Cancel, NoRoute}
-use Rattle.fleet_base.specs.TimedWalk.{TimedWalk, arrival}
+use Rattle.fleet_base.specs.TimedWalk.{arrival}
 use Rattle.lane_runs.specs.declared.answer.Answer.{Answer}
 use Rattle.lane_runs.specs.declared.answer.Answer.TheVariants.{Made, Gone}
 use Rattle.journal_lines.specs.declared.totals.Totals.{Totals}

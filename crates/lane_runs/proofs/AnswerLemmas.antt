@@ -120,13 +120,13 @@ answering_more first orders xs a last last' Lives Lives' was more grows new keep
   ];
   rising = λ j k id next less c d. elim (committed_cases xs a k next d) [
     | inl old ↦ elim (committed_cases xs a j id c) [
-        | inl earlier ↦ was.rising j k id next less earlier old
-        | inr latest ↦ let e = latest.0 in absurd (omega (arith, slice_get_within xs k _ old.at))
-      ]
+      | inl earlier ↦ was.rising j k id next less earlier old
+      | inr latest ↦ let e = latest.0 in absurd (omega (arith, slice_get_within xs k _ old.at))
+    ]
     | inr latest ↦ elim (committed_cases xs a j id c) [
-        | inl earlier ↦ let o = was.under j id earlier in let n = (new next latest.1).2 in omega arith
-        | inr same ↦ let e = latest.0 in let f = same.0 in absurd (omega arith)
-      ]
+      | inl earlier ↦ let o = was.under j id earlier in let n = (new next latest.1).2 in omega arith
+      | inr same ↦ let e = latest.0 in let f = same.0 in absurd (omega arith)
+    ]
   ];
 }
 
@@ -150,9 +150,9 @@ module _ (first : ℕ) (orders : List Order) (xs : List Answer) (last : ℕ) (Li
   answers_commit number last' era id q w at is above within here keep =
       let a : Answer = Made number (E.Commit id era q w) in
       answering_more first orders xs a last last' Lives Lives' was (answers_more first orders xs (Plan q) a was.right at is refl) (omega arith)
-          (λ other c. let same : id ≡ other = commit_same _ _ id _ _ other c in
-            subst (λ (z : RouteId). Lives' z × (z.stamp ≤ last') × (last < z.stamp)) same (here, within, above))
-          (λ j other c unended lives. keep other lives)
+      (λ other c. let same : id ≡ other = commit_same _ _ id _ _ other c in
+      subst (λ (z : RouteId). Lives' z × (z.stamp ≤ last') × (last < z.stamp)) same (here, within, above))
+      (λ j other c unended lives. keep other lives)
 
   -- a plan was answered without a route
   pub answers_refusal : (number last' stamp caller era : ℕ) (q : Request) → slice_get orders (length xs) ≡ Some (Plan q) → number ≡ first + length xs
@@ -161,8 +161,8 @@ module _ (first : ℕ) (orders : List Order) (xs : List Answer) (last : ℕ) (Li
   answers_refusal number last' stamp caller era q at is grows keep =
       let a : Answer = Made number (E.NoRoute stamp caller era q) in
       answering_more first orders xs a last last' Lives Lives' was (answers_more first orders xs (Plan q) a was.right at is refl) grows
-          (λ other c. absurd (no_commit_refused _ _ _ _ _ other c))
-          (λ j other c unended lives. keep other lives)
+      (λ other c. absurd (no_commit_refused _ _ _ _ _ other c))
+      (λ j other c unended lives. keep other lives)
 
   -- a cancel is gone, since its plan has no route
   pub answers_gone : (number target : ℕ) → slice_get orders (length xs) ≡ Some (Cancel target) → number ≡ first + length xs
@@ -171,8 +171,8 @@ module _ (first : ℕ) (orders : List Order) (xs : List Answer) (last : ℕ) (Li
   answers_gone number target at is none_there keep =
       let a : Answer = Gone number target in
       answering_more first orders xs a last last Lives Lives' was (answers_more first orders xs (Cancel target) a was.right at is (refl, refused_longer xs (a ∷ []) _ none_there)) (omega arith)
-          (λ other c. absurd (no_commit_gone _ _ other c))
-          (λ j other c unended lives. keep other lives)
+      (λ other c. absurd (no_commit_gone _ _ other c))
+      (λ j other c unended lives. keep other lives)
 
   -- a cancel ended its plan's route, and no other
   pub answers_cancel : (number target era : ℕ) (id : RouteId) → NamePlans first orders → slice_get orders (length xs) ≡ Some (Cancel target) → number ≡ first + length xs
@@ -183,8 +183,8 @@ module _ (first : ℕ) (orders : List Order) (xs : List Answer) (last : ℕ) (Li
       let h = names.plan (length xs) target at in
       let h2 = h.2 in
       answering_more first orders xs a last last Lives Lives' was (answers_more first orders xs (Cancel target) a was.right at is (committed_longer xs (a ∷ []) _ id there)) (omega arith)
-          (λ other c. absurd (no_commit_cancel _ _ _ other c))
-          (λ j other c open_yet lives. keep other (apart j other c (λ here. open_yet (length xs) target (omega arith) at (omega arith))) lives)
+      (λ other c. absurd (no_commit_cancel _ _ _ other c))
+      (λ j other c open_yet lives. keep other (apart j other c (λ here. open_yet (length xs) target (omega arith) at (omega arith))) lives)
     where
       apart : (j : ℕ) (other : RouteId) → Committed xs j other → (j ≡ target - first → ⊥) → other.stamp ≢ id.stamp
       apart j other k off equal = elim (nat_cases j (target - first)) [

@@ -1,17 +1,15 @@
 -- Cancels of lanes name plans, in one lane and among all orders.
 use Rattle.std.proofs.Common.{◌≡◌, ℕ, zero, suc, ◌+◌, ◌-◌, ◌<◌, ◌≤◌, ◌⊎◌, inl, inr, ◌&&◌, ◌||◌, Bool, true, false, true≢false, not, List, [], ◌∷◌, ◌++◌, length, take, Some, Option, refl, sym, ap, ◌∙◌, subst, arith, eq-eqb}
-use Rattle.std.specs.Prelude.{◌==◌, nat_le, None, All, slice_get}
+use Rattle.std.specs.Prelude.{nat_le, None, All, slice_get}
 use Rattle.std.specs.List.{list_any}
 use Rattle.std.proofs.lemmas.Bool.{leb-true}
-use Rattle.std.proofs.lemmas.List.{length-append}
 use Rattle.std.proofs.lemmas.List.Elements.{All-nil, All-append, All-head, All-tail}
 use Rattle.std.proofs.lemmas.Option.{slice_get_within, get_or_from_slice_get}
 use Rattle.fleet_base.specs.declared.request.Request.{Request}
-use Rattle.fleet_base.proofs.WalkLemmas.{nat_cases}
 use Rattle.order_text.specs.declared.lane.Lane.{Lane}
 use Rattle.order_text.specs.declared.order.Order.{Order}
 use Rattle.order_text.specs.declared.order.Order.TheVariants.{Plan, Cancel}
-use Rattle.order_text.specs.Lanes.{is_plan, cancels, may_cancel, MayName, after_lane, all_orders, IsOrderOn, IsLane, AreNumberedFrom, AreLanes}
+use Rattle.order_text.specs.Lanes.{is_plan, cancels, may_cancel, after_lane, all_orders, IsOrderOn, IsLane, AreNumberedFrom, AreLanes}
 use Rattle.lane_runs.specs.Answering.{NamePlans}
 use Rattle.lane_runs.proofs.AnswerLemmas.{get_longer}
 
@@ -67,13 +65,13 @@ named_parts first before target e =
 pub lane_names : (cells : ℕ) (lane : Lane) → IsLane cells lane → NamePlans lane.first lane.orders
 lane_names cells lane is = record {
   plan = λ i target at.
-    let named = named_parts lane.first (take i lane.orders) target (is.names i (Cancel target) at) in
-    let low = named.0 in
-    let there = take_get lane.orders i (target - lane.first) _ named.1.1 in
-    (target - lane.first, there.0, omega arith, named.1.0, there.1);
+      let named = named_parts lane.first (take i lane.orders) target (is.names i (Cancel target) at) in
+      let low = named.0 in
+      let there = take_get lane.orders i (target - lane.first) _ named.1.1 in
+      (target - lane.first, there.0, omega arith, named.1.0, there.1);
   once = λ i k target less at later.
-    let named = named_parts lane.first (take k lane.orders) target (is.names k (Cancel target) later) in
-    true≢false (sym (some_cancels (take k lane.orders) i target (take_has lane.orders k i _ less at)) ∙ named.2);
+      let named = named_parts lane.first (take k lane.orders) target (is.names k (Cancel target) later) in
+      true≢false (sym (some_cancels (take k lane.orders) i target (take_has lane.orders k i _ less at)) ∙ named.2);
 }
 
 -- ---- all orders
@@ -101,19 +99,19 @@ names_both first next xs ys follows a b = record {
   ];
   once = λ i k target less at later. elim (later_get xs ys k _ later) [
     | inl old ↦ elim (later_get xs ys i _ at) [
-        | inl first_too ↦ a.once i k target less first_too old
-        | inr past ↦ let place = past.1 in absurd (omega (arith, slice_get_within xs k _ old))
-      ]
+      | inl first_too ↦ a.once i k target less first_too old
+      | inr past ↦ let place = past.1 in absurd (omega (arith, slice_get_within xs k _ old))
+    ]
     | inr new ↦ elim (later_get xs ys i _ at) [
-        | inl first_too ↦
-            let h = a.plan i target first_too in
-            let g = b.plan new.0 target new.2 in
-            let early = h.1 in let named = h.2 in let again = g.2 in
-            absurd (omega (arith, follows, slice_get_within xs i _ first_too))
-        | inr past ↦
-            let p = past.1 in let n = new.1 in
-            b.once past.0 new.0 target (omega arith) past.2 new.2
-      ]
+      | inl first_too ↦
+          let h = a.plan i target first_too in
+          let g = b.plan new.0 target new.2 in
+          let early = h.1 in let named = h.2 in let again = g.2 in
+          absurd (omega (arith, follows, slice_get_within xs i _ first_too))
+      | inr past ↦
+          let p = past.1 in let n = new.1 in
+          b.once past.0 new.0 target (omega arith) past.2 new.2
+    ]
   ];
 }
 

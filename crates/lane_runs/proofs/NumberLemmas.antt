@@ -1,5 +1,5 @@
 -- Orders by their numbers.
-use Rattle.std.proofs.Common.{◌≡◌, ℕ, zero, suc, ◌+◌, ◌-◌, ◌<◌, ◌≤◌, Bool, true, false, true≢false, List, [], ◌∷◌, ◌++◌, length, get_or, Some, refl, sym, ap, ◌∙◌, subst, arith}
+use Rattle.std.proofs.Common.{◌≡◌, ℕ, zero, suc, ◌+◌, ◌-◌, ◌<◌, ◌≤◌, true, false, true≢false, List, [], ◌∷◌, ◌++◌, length, get_or, Some, refl, sym, ap, ◌∙◌, subst, arith}
 use Rattle.std.specs.Prelude.{nat_le, slice_get}
 use Rattle.std.specs.List.Sorted.{IsPartitionedBy, IsPartitionPoint}
 use Rattle.std.proofs.lemmas.Bool.{le-leb, leb-true, leb-false}
@@ -55,8 +55,8 @@ first_has l ls base number first low high = record {
   begun = omega (arith, first);
   before_end = high;
   found =
-    let e : number - base ≡ number - l.first = omega (arith, first) in
-    ap (slice_get (l.orders ++ all_orders ls)) e ∙ slice_get_front l.orders (all_orders ls) (number - l.first) (omega (arith, first));
+      let e : number - base ≡ number - l.first = omega (arith, first) in
+      ap (slice_get (l.orders ++ all_orders ls)) e ∙ slice_get_front l.orders (all_orders ls) (number - l.first) (omega (arith, first));
 }
 
 later_has : (l : Lane) (ls : List Lane) (lane : Lane) (base number : ℕ) → l.first ≡ base → after_lane l ≤ number → HasNumberFrom (after_lane l) lane (all_orders ls) number → HasNumberFrom base lane (all_orders (l ∷ ls)) number
@@ -88,7 +88,7 @@ found_in (l ∷ next ∷ ls) base number (suc (suc k)) d numbered low high withi
     let begun = leb-true next.first number (point.0 1 d (omega arith) (omega arith)) in
     let cut = length-append l.orders (all_orders (next ∷ ls)) in
     let rest = found_in (next ∷ ls) (after_lane l) number (suc k) d numbered.1 (omega arith) (omega arith) (omega arith)
-        ((λ i e h less. point.0 (suc i) e (omega arith) (omega arith)), (λ i e le h. point.1 (suc i) e (omega arith) (omega arith))) in
+    ((λ i e h less. point.0 (suc i) e (omega arith) (omega arith)), (λ i e le h. point.1 (suc i) e (omega arith) (omega arith))) in
     (suc rest.0, ap suc rest.1, later_has l (next ∷ ls) (get_or (next ∷ ls) rest.0 d) base number numbered.0 (omega arith) rest.2)
 
 -- in the words of a binary search

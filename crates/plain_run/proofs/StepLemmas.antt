@@ -1,6 +1,6 @@
 -- What one more answer leaves of a run by one worker.
-use Rattle.std.proofs.Common.{◌≡◌, ◌≢◌, ℕ, zero, suc, ◌+◌, ◌-◌, ◌<◌, ◌≤◌, ◌⊎◌, inl, inr, ◌&&◌, ◌||◌, ◌==◌, Bool, true, false, true≢false, Option, not, cond, List, [], ◌∷◌, ◌++◌, length, take, Some, refl, sym, ap, ap₂, ◌∙◌, subst, arith, append-nil, eqb-true, eq-eqb}
-use Rattle.std.specs.Prelude.{All, AllPairs, IsPermutation, filter, fold, get_or, slice_get, None}
+use Rattle.std.proofs.Common.{◌≡◌, ◌≢◌, ℕ, zero, suc, ◌+◌, ◌<◌, ◌≤◌, inl, inr, ◌&&◌, ◌||◌, ◌==◌, Bool, true, false, true≢false, Option, not, cond, List, [], ◌∷◌, ◌++◌, length, take, Some, refl, sym, ap, ap₂, ◌∙◌, subst, arith, append-nil, eqb-true, eq-eqb}
+use Rattle.std.specs.Prelude.{All, IsPermutation, filter, get_or, slice_get, None}
 use Rattle.std.specs.List.{list_any}
 use Rattle.std.proofs.lemmas.List.{length-append}
 use Rattle.std.proofs.lemmas.List.Sums.{fold-append}
@@ -16,7 +16,7 @@ use Rattle.fleet_base.specs.declared.request.Entry.TheVariants as E
 use Rattle.fleet_base.specs.Terrain.{Terrain}
 use Rattle.fleet_base.specs.TimedWalk.{TimedWalk}
 use Rattle.fleet_base.specs.Planned.{NoneFree}
-use Rattle.fleet_base.specs.History.{Past, nothing, followed_by, past_of, book_after, reply_of, era_of, same_id, IsLive, IsStrong, IsStronglyAllowed, EachFollows}
+use Rattle.fleet_base.specs.History.{Past, nothing, followed_by, past_of, book_after, reply_of, era_of, same_id, IsLive, IsStrong, IsStronglyAllowed}
 use Rattle.fleet_base.specs.Journal.{ComesFirst, Precedes, IsInOrder}
 use Rattle.fleet_base.specs.Traffic.{traffic_of}
 use Rattle.fleet_base.specs.Canonical.{IsCanonical}
@@ -76,7 +76,7 @@ run_more g horizon orders xs o a was at number right = record {
         let same : o ≡ p = same_some o p (sym at ∙ (ap (slice_get orders) (sym new.0) ∙ oi)) in
         let front : take i (xs ++ a ∷ []) ≡ xs = ap (λ k. take k (xs ++ a ∷ [])) new.0 ∙ take_all xs (a ∷ []) in
         subst (λ (z : Order × Answer). (order_of z.1 ≡ i) × IsPlainAnswer g horizon (take i (xs ++ a ∷ [])) z.0 z.1) (λ j. (same j, new.1 j))
-            (number ∙ sym new.0, subst (λ f. IsPlainAnswer g horizon f o a) (sym front) right)
+        (number ∙ sym new.0, subst (λ f. IsPlainAnswer g horizon f o a) (sym front) right)
   ];
 }
 
@@ -89,6 +89,7 @@ behind_first book e x era new (inr same) = inr (same.0 ∙ sym era, first (reply
   where
     at : (id other : RouteId) → reply_of x ≡ Some id → same.1.0 ≡ other → id ≡ other
     at id other is e = same_some id other (sym is ∙ same.1.1 ∙ ap (λ (r : RouteId). Some r) e)
+
     first : (a b : Option RouteId) → reply_of x ≡ a → reply_of e ≡ b → ComesFirst a b
     first (Some a) (Some b) ax be =
         let low : a.stamp ≡ same.1.0.stamp = ap (λ (r : RouteId). r.stamp) (at a same.1.0 ax refl) in
@@ -194,7 +195,7 @@ module _ (g : Terrain) (horizon : ℕ) (orders : List Order) (xs : List Answer) 
   strong_more e new answers =
       let allowed = answers.follows (past_of (entries_made xs)) was.leads in
       let here : IsStronglyAllowed g horizon (past_of (entries_made xs)) e =
-          subst (λ (z : Terrain × ℕ). IsStronglyAllowed z.0 z.1 (past_of (entries_made xs)) e) (λ j. (was.grid_is j, was.horizon_is j)) allowed in
+      subst (λ (z : Terrain × ℕ). IsStronglyAllowed z.0 z.1 (past_of (entries_made xs)) e) (λ j. (was.grid_is j, was.horizon_is j)) allowed in
       follows_push (IsStronglyAllowed g horizon) nothing (entries_made xs) e was.strong here
 
   leads_more : (e : Entry) (new : BookState) → AnswersBook old new e → LeadsTo (past_of (entries_made xs ++ e ∷ [])) new
@@ -236,16 +237,16 @@ module _ (g : Terrain) (horizon : ℕ) (orders : List Order) (xs : List Answer) 
       let few_eras = was.few_eras in
       let leads = was.leads in
       let canonical : IsCanonical g horizon (traffic_of (book_after (entries_made xs))) q w =
-          subst (λ (z : Terrain × ℕ). IsCanonical z.0 z.1 (traffic_of (book_after (entries_made xs))) q w) (λ j. (was.grid_is j, was.horizon_is j))
-            (is.walk_is.canonical (book_after (entries_made xs)) leads.routes) in
+      subst (λ (z : Terrain × ℕ). IsCanonical z.0 z.1 (traffic_of (book_after (entries_made xs))) q w) (λ j. (was.grid_is j, was.horizon_is j))
+      (is.walk_is.canonical (book_after (entries_made xs)) leads.routes) in
       let reply : IsPlainReply g horizon (entries_made xs) q e =
-          (is.id_is ∙ ap (λ (k : ℕ). record { stamp = k + 1; caller = 0 }) was.stamp_is, is.in_era ∙ sym leads.era, is.request_is, canonical) in
+      (is.id_is ∙ ap (λ (k : ℕ). record { stamp = k + 1; caller = 0 }) was.stamp_is, is.in_era ∙ sym leads.era, is.request_is, canonical) in
       entry_more n e (Plan q) new answers (ap (λ (s : BookState). s.grid) is.rest_is) (ap (λ (s : BookState). s.horizon) is.rest_is) (omega arith) (omega arith)
-          is.in_era (λ other r. let same : id ≡ other = same_some id other r in omega (arith, ap (λ (r : RouteId). r.stamp) same)) (inr (is.in_era ∙ sym new_era, (id, refl, omega arith)))
-          (omega arith) (omega arith) (omega arith) at number reply
-          (subst (λ (r : Request). AreBeingAnswered 0 orders (xs ++ Made n (E.Commit id era r w) ∷ []) new.stamp (λ other. IsLive other new.routes)) (sym is.request_is)
-            (answers_commit 0 orders xs old.stamp (λ other. IsLive other old.routes) (λ other. IsLive other new.routes) was.answering n new.stamp era id q w at (omega (arith, number))
-              (omega arith) (omega arith) (live_new id w old.routes new.routes is.routes_are) (λ other lives. live_still id w other old.routes new.routes is.routes_are lives)))
+      is.in_era (λ other r. let same : id ≡ other = same_some id other r in omega (arith, ap (λ (r : RouteId). r.stamp) same)) (inr (is.in_era ∙ sym new_era, (id, refl, omega arith)))
+      (omega arith) (omega arith) (omega arith) at number reply
+      (subst (λ (r : Request). AreBeingAnswered 0 orders (xs ++ Made n (E.Commit id era r w) ∷ []) new.stamp (λ other. IsLive other new.routes)) (sym is.request_is)
+      (answers_commit 0 orders xs old.stamp (λ other. IsLive other old.routes) (λ other. IsLive other new.routes) was.answering n new.stamp era id q w at (omega (arith, number))
+      (omega arith) (omega arith) (live_new id w old.routes new.routes is.routes_are) (λ other lives. live_still id w other old.routes new.routes is.routes_are lives)))
 
   pub refusal_more : (n : ℕ) (q : Request) (stamp caller era : ℕ) (asked : Request) (new : BookState) → slice_get orders (length xs) ≡ Some (Plan q) → n ≡ length xs
       → IsRefusal old 0 q stamp caller era asked new → AnswersBook old new (E.NoRoute stamp caller era asked) → IsUnderway g horizon orders (xs ++ Made n (E.NoRoute stamp caller era asked) ∷ []) new
@@ -263,12 +264,12 @@ module _ (g : Terrain) (horizon : ℕ) (orders : List Order) (xs : List Answer) 
       let none : NoneFree g horizon q (book_after (entries_made xs)) = none_more (λ w free. free-reorder w (Reorder-from_permutation _ _ leads.routes) free) here in
       let reply : IsPlainReply g horizon (entries_made xs) q e = (is.stamp_is ∙ ap (λ (k : ℕ). k + 1) was.stamp_is, is.caller_is, is.in_era ∙ sym leads.era, is.request_is, none) in
       entry_more n e (Plan q) new answers (ap (λ (s : BookState). s.grid) is.rest_is) (ap (λ (s : BookState). s.horizon) is.rest_is) (omega arith) (omega arith)
-          is.in_era (λ other r. let same : record { stamp = stamp; caller = caller } ≡ other = same_some (record { stamp = stamp; caller = caller }) other r in omega (arith, ap (λ (r : RouteId). r.stamp) same))
-          (inr (is.in_era ∙ sym new_era, (record { stamp = stamp; caller = caller }, refl, omega arith)))
-          (omega arith) (omega arith) (omega arith) at number reply
-          (subst (λ (r : Request). AreBeingAnswered 0 orders (xs ++ Made n (E.NoRoute stamp caller era r) ∷ []) new.stamp (λ other. IsLive other new.routes)) (sym is.request_is)
-            (answers_refusal 0 orders xs old.stamp (λ other. IsLive other old.routes) (λ other. IsLive other new.routes) was.answering n new.stamp stamp caller era q at (omega (arith, number))
-              (omega arith) (λ other lives. subst (IsLive other) (sym routes) lives)))
+      is.in_era (λ other r. let same : record { stamp = stamp; caller = caller } ≡ other = same_some (record { stamp = stamp; caller = caller }) other r in omega (arith, ap (λ (r : RouteId). r.stamp) same))
+      (inr (is.in_era ∙ sym new_era, (record { stamp = stamp; caller = caller }, refl, omega arith)))
+      (omega arith) (omega arith) (omega arith) at number reply
+      (subst (λ (r : Request). AreBeingAnswered 0 orders (xs ++ Made n (E.NoRoute stamp caller era r) ∷ []) new.stamp (λ other. IsLive other new.routes)) (sym is.request_is)
+      (answers_refusal 0 orders xs old.stamp (λ other. IsLive other old.routes) (λ other. IsLive other new.routes) was.answering n new.stamp stamp caller era q at (omega (arith, number))
+      (omega arith) (λ other lives. subst (IsLive other) (sym routes) lives)))
 
   pub plan_more : (n : ℕ) (q : Request) (e : Entry) (new : BookState) → slice_get orders (length xs) ≡ Some (Plan q) → n ≡ length xs → IsReplyTo old 0 q e new → AnswersBook old new e
       → IsUnderway g horizon orders (xs ++ Made n e ∷ []) new
@@ -289,11 +290,11 @@ module _ (g : Terrain) (horizon : ℕ) (orders : List Order) (xs : List Answer) 
           let few = was.few_stamps in
           let few_eras = was.few_eras in
           entry_more n (E.Cancel id old.era) (Cancel target) new answers (ap (λ (s : BookState). s.grid) is.rest_is) (ap (λ (s : BookState). s.horizon) is.rest_is) (omega arith) (omega arith)
-              refl (λ other r. absurd (cc)) (inl (omega arith))
-              (omega arith) (omega arith) (omega arith) at number (there, sym was.leads.era)
-              (subst (λ (s : ℕ). AreBeingAnswered 0 orders (xs ++ Made n (E.Cancel id old.era) ∷ []) s (λ other. IsLive other new.routes)) (sym new_stamp)
-                (answers_cancel 0 orders xs old.stamp (λ other. IsLive other old.routes) (λ other. IsLive other new.routes) was.answering n target old.era id names at (omega (arith, number))
-                  (subst (λ (k : ℕ). Committed xs k id) (omega arith) there) (λ other apart lives. live_others id other old.routes new.routes is.routes_are apart lives)))
+          refl (λ other r. absurd (cc)) (inl (omega arith))
+          (omega arith) (omega arith) (omega arith) at number (there, sym was.leads.era)
+          (subst (λ (s : ℕ). AreBeingAnswered 0 orders (xs ++ Made n (E.Cancel id old.era) ∷ []) s (λ other. IsLive other new.routes)) (sym new_stamp)
+          (answers_cancel 0 orders xs old.stamp (λ other. IsLive other old.routes) (λ other. IsLive other new.routes) was.answering n target old.era id names at (omega (arith, number))
+          (subst (λ (k : ℕ). Committed xs k id) (omega arith) there) (λ other apart lives. live_others id other old.routes new.routes is.routes_are apart lives)))
 
   pub gone_more_step : (n target : ℕ) → slice_get orders (length xs) ≡ Some (Cancel target) → n ≡ length xs → Refused xs target → IsUnderway g horizon orders (xs ++ Gone n target ∷ []) old
   gone_more_step n target at number there =

@@ -20,14 +20,18 @@ fn given(answers: &[Answer], place: usize) -> Option<RouteId>
     ensures { MatchOption result (Refused answers.now place) (λ id. Committed answers.now place id) }
 {
     match answers.get(place) {
-        Some(Answer::Made {
-            entry: Entry::Commit { id, .. },
-            ..
-        }) => Some(*id),
-        Some(Answer::Made {
-            entry: Entry::NoRoute { .. },
-            ..
-        }) => None,
+        Some(
+            Answer::Made {
+                entry: Entry::Commit { id, .. },
+                ..
+            },
+        ) => Some(*id),
+        Some(
+            Answer::Made {
+                entry: Entry::NoRoute { .. },
+                ..
+            },
+        ) => None,
         _ => unreachable!(),
     }
 }

@@ -15,11 +15,7 @@ use plain_book::PlainBook;
 use std::alloc::Global;
 
 /// Answers all orders of the lanes, one after the other by their numbers, in a book that is new.
-pub fn run_alone(
-    alloc: Global,
-    book: &mut PlainBook,
-    lanes: &[Lane],
-) -> Result<Vec<Answer>, Memory>
+pub fn run_alone(alloc: Global, book: &mut PlainBook, lanes: &[Lane]) -> Result<Vec<Answer>, Memory>
     requires new { IsNewBook book.old }
     requires lanes { AreLanes (length book.old.grid.cells) lanes.now }
     ensures grid { IfOk result (λ answers. book.new.grid ≡ book.old.grid) }

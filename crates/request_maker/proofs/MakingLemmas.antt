@@ -1,5 +1,5 @@
 -- One cell more, and one request more.
-use Rattle.std.proofs.Common.{◌≡◌, ℕ, zero, suc, ◌+◌, ◌*◌, Bool, List, [], ◌∷◌, ◌++◌, length, refl, sym, ap, ap₂, ◌∙◌, arith}
+use Rattle.std.proofs.Common.{◌≡◌, ℕ, suc, ◌+◌, ◌*◌, Bool, List, [], ◌∷◌, ◌++◌, sym, ap, ap₂, ◌∙◌, arith}
 use Rattle.std.specs.Prelude.{nat_le}
 use Rattle.fleet_base.specs.declared.request.Request.{Request}
 use Rattle.request_maker.specs.Making.{next_state, state_after, value_below, draw_at, each_below, is_open_at, request_at}

@@ -2,6 +2,7 @@ ghost use Rattle.std.specs.Prelude.{◌≡◌, ◌<◌, ℕ, ◌+◌};
 ghost use Rattle.request_maker.specs.Making.{next_state, state_after, value_below, draw_at};
 
 const FACTOR: u64 = 6_364_136_223_846_793_005;
+
 const SUMMAND: u64 = 1_442_695_040_888_963_407;
 
 // A linear congruential generator: its state after the draws so far.

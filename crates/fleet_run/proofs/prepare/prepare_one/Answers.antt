@@ -1,7 +1,6 @@
 use Rattle.std.proofs.Common.{refl}
 use Rattle.std.proofs.lemmas.Result.{err_from_is_err_and}
 use Rattle.command_line.specs.declared.command.Command.TheVariants.{One}
-use Rattle.fleet_run.proofs.PrepareLemmas.{cause_since}
 use Rattle.fleet_run.proofs.prepare.prepare_one.Goals as goal
 
 pub returns-in_err-grid-clause-prepared : goal.returns-in_err-grid-clause-prepared

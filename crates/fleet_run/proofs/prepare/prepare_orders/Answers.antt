@@ -1,9 +1,5 @@
-use Rattle.std.proofs.Common.{◌∙◌, refl, sym, ap, subst, length}
-use Rattle.std.specs.Prelude.{All}
+use Rattle.std.proofs.Common.{refl, sym, subst}
 use Rattle.std.proofs.lemmas.Result.{err_from_is_err_and}
-use Rattle.scen_text.specs.ScenGrammar.{IsOnGrid}
-use Rattle.order_text.specs.Lanes.{request_lanes, AreLanes}
-use Rattle.order_text.proofs.RightLanes.{request_lanes_right}
 use Rattle.command_line.specs.declared.command.Command.TheVariants.{Orders}
 use Rattle.fleet_run.specs.Files.{IsMapRead}
 use Rattle.fleet_run.proofs.PrepareLemmas.{cause_since}
@@ -18,5 +14,5 @@ pub returns-in_err-lanes-clause-prepared : goal.returns-in_err-lanes-clause-prep
 returns-in_err-lanes-clause-prepared g c workers =
     let p = err_from_is_err_and c.from_residual-in_err-lanes.result c.from_residual-in_err-lanes.ensures.1 in
     rw (p.1, p.2) (cause_since (λ n. n.now) (g.H.Shelf.told c.args.shelf.now) (g.H.Shelf.told c.load_map.new.shelf) (Orders c.args.map.now c.args.orders.now workers c.args.horizon)
-      (g.H.Shelf.failed c.args.shelf.now) (g.H.Shelf.failed c.load_map.new.shelf) (g.H.Shelf.failed c.load_lanes.new.shelf) _ c.in_ok-grid.ensures.told c.in_ok-grid.ensures.loaded.1
-      (c.in_err-lanes.ensures.cause c.args.map.now workers c.args.horizon (subst (λ f. IsMapRead f c.args.map.now c.in_ok-grid.grid) (sym c.in_ok-grid.ensures.told) c.in_ok-grid.ensures.loaded.0)))
+    (g.H.Shelf.failed c.args.shelf.now) (g.H.Shelf.failed c.load_map.new.shelf) (g.H.Shelf.failed c.load_lanes.new.shelf) _ c.in_ok-grid.ensures.told c.in_ok-grid.ensures.loaded.1
+    (c.in_err-lanes.ensures.cause c.args.map.now workers c.args.horizon (subst (λ f. IsMapRead f c.args.map.now c.in_ok-grid.grid) (sym c.in_ok-grid.ensures.told) c.in_ok-grid.ensures.loaded.0)))

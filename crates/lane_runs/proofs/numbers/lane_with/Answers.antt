@@ -1,4 +1,4 @@
-use Rattle.std.proofs.Common.{rules, [], sym}
+use Rattle.std.proofs.Common.{rules, []}
 use Rattle.std.specs.Prelude.{nat_le}
 use Rattle.std.proofs.lemmas.List.Sorted.{IsPartitionPoint-from_clause}
 use Rattle.lane_runs.proofs.NumberLemmas.{partitioned, some_before, lane_at}

@@ -1,7 +1,7 @@
 use Rattle.std.proofs.Common.{ap, sym, subst, length, refl}
 use Rattle.order_text.specs.Lanes.{all_orders}
 use Rattle.plain_run.specs.Underway.{IsUnderway}
-use Rattle.plain_run.proofs.StepLemmas.{run_begins, plain_ends, run_ends}
+use Rattle.plain_run.proofs.StepLemmas.{run_begins}
 use Rattle.plain_run.proofs.run.run_alone.Goals as goal
 
 pub loop-order-init : goal.loop-order-init

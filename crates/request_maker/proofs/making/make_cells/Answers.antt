@@ -1,4 +1,4 @@
-use Rattle.std.proofs.Common.{◌+◌, refl, ap, length, ◌∙◌, rules}
+use Rattle.std.proofs.Common.{◌+◌, refl, ap, length, ◌∙◌}
 use Rattle.std.proofs.lemmas.List.{length-append}
 use Rattle.request_maker.proofs.MakingLemmas.{cells_more, drawn_next}
 use Rattle.request_maker.proofs.making.make_cells.Goals as goal

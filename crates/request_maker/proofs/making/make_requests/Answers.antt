@@ -1,4 +1,4 @@
-use Rattle.std.proofs.Common.{◌≡◌, ◌+◌, ◌*◌, ◌<◌, refl, sym, subst, ap, length, ◌∙◌, rules, arith}
+use Rattle.std.proofs.Common.{◌+◌, ◌<◌, refl, sym, subst, ap, length, ◌∙◌, arith}
 use Rattle.std.specs.Prelude.{All}
 use Rattle.std.proofs.lemmas.List.{length-append}
 use Rattle.std.proofs.lemmas.List.Elements.{All-nil, All-push}
@@ -20,10 +20,10 @@ pub loop-order-preserved : goal.loop-order-preserved
 loop-order-preserved c =
     record {
       made = λ start is. (requests_more c.args.area start c.loop-order.order _ _ _ c.draw.result c.draw-in-loop-order.result c.loop-order.requests.items _ _ (c.loop-order.invariant.made start is) (c.loop-order.invariant.drawn start is)
-        c.draw.ensures.state c.draw.ensures.value c.draw-in-loop-order.ensures.state c.draw-in-loop-order.ensures.value refl c.in_ok-push.ensures.items).0;
+          c.draw.ensures.state c.draw.ensures.value c.draw-in-loop-order.ensures.state c.draw-in-loop-order.ensures.value refl c.in_ok-push.ensures.items).0;
       so_many = ap length c.in_ok-push.ensures.items ∙ length-append c.loop-order.requests.items _ ∙ ap (λ n. n + 1) c.loop-order.invariant.so_many;
       drawn = λ start is. (requests_more c.args.area start c.loop-order.order _ _ _ c.draw.result c.draw-in-loop-order.result c.loop-order.requests.items _ _ (c.loop-order.invariant.made start is) (c.loop-order.invariant.drawn start is)
-        c.draw.ensures.state c.draw.ensures.value c.draw-in-loop-order.ensures.state c.draw-in-loop-order.ensures.value refl c.in_ok-push.ensures.items).1;
+          c.draw.ensures.state c.draw.ensures.value c.draw-in-loop-order.ensures.state c.draw-in-loop-order.ensures.value refl c.in_ok-push.ensures.items).1;
       on_grid = subst (λ rows. All (λ (q : Request). (q.start.0 < c.args.area) × (q.goal.0 < c.args.area)) rows) (sym c.in_ok-push.ensures.items)
           (All-push (λ (q : Request). (q.start.0 < c.args.area) × (q.goal.0 < c.args.area)) c.loop-order.requests.items _ c.loop-order.invariant.on_grid (c.draw.ensures.below, c.draw-in-loop-order.ensures.below));
       same = (refl, refl);
