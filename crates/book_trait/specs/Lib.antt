@@ -1,0 +1,5 @@
+pub mod Passes
+pub mod Calls
+pub mod Laws
+pub mod EndedCallers
+pub mod Ended
