@@ -3,5 +3,7 @@ pub mod Placing
 pub mod Alike
 pub mod KeptTraffic
 pub mod Keeping
+pub mod Searching
 pub mod Entries
 pub mod Answering
+pub mod Books

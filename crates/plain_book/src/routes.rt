@@ -1,4 +1,4 @@
-ghost use Rattle.std.specs.Prelude.{◌≡◌, ◌∷◌, length, IsPermutation, OnOk, OnErr, IsTrue, ◌↔◌, filter, IfOk};
+ghost use Rattle.std.specs.Prelude.{◌≡◌, ◌∷◌, length, IsPermutation, OnOk, OnErr, IsTrue, ◌↔◌, filter, IfOk, false};
 ghost use Rattle.std.proofs.Common.{not};
 ghost use Rattle.std.specs.List.Sorted.{IsStrictlySortedBy};
 ghost use Rattle.std.specs.Map.{keys_of};
@@ -17,6 +17,8 @@ pub fn copy_of(alloc: Global, walk: &Walk) -> Result<Walk, Memory>
     ensures { IfOk result (λ copy. copy ≡ walk.now) }
 {
     let cells = walk.cells().to_vec(alloc)?;
+    // The arrival tells that the walk is over in time.
+    let _arrival = walk.arrival();
     if walk.stays() {
         Ok(Walk::staying(walk.depart(), cells))
     } else {
@@ -39,16 +41,18 @@ pub fn add_route(
     ensures ok { OnOk result (IsPermutation (routes_of routes.new.entries) (record { id = id; walk = walk } ∷ routes_of routes.old.entries)) }
     ensures refused { OnErr result (routes.new.entries ≡ routes.old.entries) }
 {
-    if put_in(alloc, calendars, &walk, id).is_err() {
-        take_out(calendars, &walk, id);
-        return Err(Memory);
-    }
-    match routes.insert(id, walk) {
-        Ok(_) => Ok(()),
-        Err(refused) => {
-            let (_, walk) = refused.value;
+    match put_in(alloc, calendars, &walk, id) {
+        Ok(()) => match routes.insert(id, walk) {
+            Ok(_) => Ok(()),
+            Err(refused) => {
+                let (_, walk) = refused.value;
+                take_out(calendars, &walk, id);
+                Err(Memory)
+            }
+        },
+        Err(cause) => {
             take_out(calendars, &walk, id);
-            Err(Memory)
+            Err(cause)
         }
     }
 }
@@ -64,6 +68,7 @@ pub fn end_route(
     ensures calendars { AreCalendarsOf (routes_of routes.new.entries) calendars.new }
     ensures ordered { IsStrictlySortedBy id_cmp (keys_of routes.new.entries) }
     ensures was_live { IsTrue result ↔ IsLive id (routes_of routes.old.entries) }
+    ensures refused { result ≡ false → routes.new.entries ≡ routes.old.entries }
     ensures routes { routes_of routes.new.entries ≡ filter (λ r. not (same_id r.id id)) (routes_of routes.old.entries) }
 {
     let Some(walk) = routes.remove(&id) else {
