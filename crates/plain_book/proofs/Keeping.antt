@@ -5,14 +5,16 @@ use Rattle.std.proofs.Common.{zero, suc, ◌≤◌, Option, Bool}
 use Rattle.std.proofs.lemmas.List.Sorted.{IsPermutation-sym}
 use Rattle.std.specs.Prelude.{unwrap_or}
 use Rattle.std.proofs.lemmas.List.Elements.{filter_passes}
-use Rattle.std.proofs.lemmas.Option.{slice_get-get_or, slice_get_past, unwrap_or-slice_get}
+use Rattle.std.proofs.lemmas.Option.{slice_get-get_or, slice_get_within, slice_get_past, unwrap_or-slice_get}
 use Rattle.fleet_base.specs.declared.grid.Cell.{Cell}
 use Rattle.fleet_base.specs.declared.request.RouteId.{RouteId}
 use Rattle.fleet_base.specs.declared.request.Record.{Record}
 use Rattle.fleet_base.specs.declared.request.Stay.{Stay}
 use Rattle.fleet_base.specs.declared.request.Live.{Live}
+use Rattle.fleet_base.specs.declared.request.Request.{Request}
+use Rattle.fleet_base.specs.Terrain.{Terrain}
 use Rattle.fleet_base.specs.TimedWalk.{TimedWalk, position}
-use Rattle.fleet_base.specs.Planned.{IsFree}
+use Rattle.fleet_base.specs.Planned.{IsFree, IsWalkOf}
 use Rattle.fleet_base.specs.Stays.{HoldsTime, IsStay, AreTheStays}
 use Rattle.fleet_base.specs.History.{same_id}
 use Rattle.fleet_base.specs.Order.{IsAmong}
@@ -111,14 +113,22 @@ pub untaken_in_calendars : (w : TimedWalk) (routes : List Live) (calendars : Lis
     → (t : ℕ) (c : Cell) → position w t ≡ Some c → covers (records_at calendars c.0) t ≡ false
 untaken_in_calendars w routes calendars are free t c at = taken_alike routes calendars are c t ∙ (free_in_traffic w routes free).untaken t c at
 
+-- where a walk is at each time of its list
+position_at : (w : TimedWalk) (k : ℕ) (d : Cell) → k < length w.cells → position w (w.depart + k) ≡ Some (get_or w.cells k d)
+position_at w k d below =
+    let e : w.depart + k - w.depart ≡ k = omega arith in
+    position_within w (w.depart + k) (omega arith) (omega arith) ∙ (ap (slice_get w.cells) e ∙ slice_get-get_or w.cells k d below)
+
+-- the cells of a walk on a grid are cells of it
+pub walk_inside : (g : Terrain) (horizon : ℕ) (q : Request) (w : TimedWalk) → IsWalkOf g horizon q w → All (λ (c : Cell). c.0 < length g.cells) w.cells
+walk_inside g horizon q w is k d below = slice_get_within g.cells (get_or w.cells k d).0 true (is.opens (w.depart + k) (get_or w.cells k d) (position_at w k d below))
+
 -- the cells of a placed walk are inside
 pub placed_inside : (route : Live) (calendars : List (List Record)) → IsPlaced calendars route → All (λ (c : Cell). c.0 < length calendars) route.walk.cells
 placed_inside route calendars is k d below =
     let t : ℕ = route.walk.depart + k in
     let c : Cell = get_or route.walk.cells k d in
-    let e : t - route.walk.depart ≡ k = omega arith in
-    let at : position route.walk t ≡ Some c =
-    position_within route.walk t (omega arith) (omega arith) ∙ (ap (slice_get route.walk.cells) e ∙ slice_get-get_or route.walk.cells k d below) in
+    let at : position route.walk t ≡ Some c = position_at route.walk k d below in
     let stay = among_any (λ (s : Stay). IsStay route.walk route.id s × ((s.cell ≡ c) × HoldsTime s.span t)) is.stays (stay_at route.walk route.id is.stays is.are t c at) in
     let there : IsAmong stay.0.span (records_at calendars c.0) = subst (λ (x : Cell). IsAmong stay.0.span (records_at calendars x.0)) stay.2.1.0 (is.placed stay.0 stay.1) in
     elim (nat_cases c.0 (length calendars)) [

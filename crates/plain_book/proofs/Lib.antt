@@ -7,3 +7,4 @@ pub mod Searching
 pub mod Entries
 pub mod Answering
 pub mod Books
+pub mod Entering
