@@ -1,5 +1,5 @@
 -- The answers of a book are a strong history.
-use Rattle.std.proofs.Common.{◌≡◌, ◌≢◌, ℕ, ◌+◌, ◌<◌, ◌≤◌, List, [], ◌∷◌, refl, sym, ap, subst, ◌∙◌, arith, not}
+use Rattle.std.proofs.Common.{◌≡◌, ℕ, ◌+◌, ◌<◌, ◌≤◌, ◌∷◌, sym, ap, subst, ◌∙◌, arith, not}
 use Rattle.std.specs.Prelude.{All, filter, IsPermutation}
 use Rattle.std.proofs.lemmas.List.Elements.{All-cons, All-weaker, All-filter}
 use Rattle.std.proofs.lemmas.List.Sorted.{All-permutation, IsPermutation-sym, IsPermutation-trans, IsPermutation-cons, list_any-IsPermutation}
@@ -9,13 +9,12 @@ use Rattle.fleet_base.specs.declared.request.Request.{Request}
 use Rattle.fleet_base.specs.declared.request.Entry.{Entry}
 use Rattle.fleet_base.specs.declared.request.Entry.TheVariants.{Commit, Cancel, NoRoute}
 use Rattle.fleet_base.specs.TimedWalk.{TimedWalk}
-use Rattle.fleet_base.specs.Planned.{IsFree}
-use Rattle.fleet_base.specs.History.{Past, IsAbove, IsNewStamp, same_id, followed_by, IsStronglyAllowed}
-use Rattle.fleet_base.proofs.Reorder.{Reorder, Reorder-from_permutation, Reorder-sym, Reorder-filter, Reorder-is_permutation}
+use Rattle.fleet_base.specs.History.{Past, IsAbove, IsNewStamp, same_id, followed_by}
+use Rattle.fleet_base.proofs.Reorder.{Reorder-from_permutation, Reorder-sym, Reorder-filter, Reorder-is_permutation}
 use Rattle.fleet_base.proofs.BookLemmas.{free-reorder, before_more, none_more}
 use Rattle.fleet_base.proofs.HistoryLemmas.{strong-commit, strong-refuse}
 use Rattle.plain_book.specs.BookState.{BookState, LeadsTo}
-use Rattle.plain_book.specs.Replies.{IsCommit, IsRefusal, IsReplyTo, EndsRoute}
+use Rattle.plain_book.specs.Replies.{IsCommit, IsRefusal, EndsRoute}
 use Rattle.plain_book.specs.History.{AnswersBook}
 
 module _ (s : BookState) (id : RouteId) (next : id.stamp ≡ s.stamp + 1) (room : s.stamp < 67108863) where

@@ -1,5 +1,5 @@
 -- What lets a route come into a book, and what its coming makes of an answer.
-use Rattle.std.proofs.Common.{◌≡◌, ◌≢◌, ℕ, ◌+◌, ◌<◌, ◌≤◌, List, [], ◌∷◌, ◌++◌, length, refl, sym, ap, subst, ◌∙◌, arith, max}
+use Rattle.std.proofs.Common.{◌≡◌, ◌≢◌, ℕ, ◌+◌, ◌≤◌, List, ◌∷◌, length, refl, sym, ap, subst, ◌∙◌, arith, max}
 use Rattle.std.specs.Prelude.{All, IsPermutation}
 use Rattle.std.proofs.lemmas.List.Elements.{All-weaker}
 use Rattle.fleet_base.specs.declared.request.Live.{Live}
@@ -20,7 +20,7 @@ planned_may_enter s q w copy id stamps is same next = subst (λ (v : TimedWalk).
   new_id = All-weaker (λ (r : Live). r.id.stamp ≤ s.stamp) (λ r. r.id ≢ id) (λ r below one. let stamp : r.id.stamp ≡ id.stamp = ap (λ (i : RouteId). i.stamp) one in omega arith) s.routes stamps;
 })
 
-abbrev with_stamp : BookState → List Live → ℕ → BookState
+abbrev pub with_stamp : BookState → List Live → ℕ → BookState
 with_stamp s routes n = record s { routes = routes; stamp = n }
 
 pub commit_of_entering : (old new : BookState) (caller : ℕ) (q : Request) (id : RouteId) (era : ℕ) (w copy : TimedWalk) → IsCanonicalIn old q w → copy ≡ w

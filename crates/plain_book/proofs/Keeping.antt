@@ -1,6 +1,6 @@
 -- The calendars stay those of the live routes while routes come and go.
-use Rattle.std.proofs.Common.{◌≡◌, ◌≢◌, ℕ, ◌+◌, ◌-◌, ◌<◌, ◌⊎◌, inl, inr, true, false, List, [], ◌∷◌, length, Some, refl, sym, ap, ◌∙◌, subst, arith, get_or, not, replicate}
-use Rattle.std.specs.Prelude.{All, filter, IsPermutation, slice_get, IfOk}
+use Rattle.std.proofs.Common.{◌≡◌, ◌≢◌, ℕ, ◌+◌, ◌-◌, ◌<◌, inl, inr, true, false, List, [], ◌∷◌, length, Some, refl, sym, ap, ◌∙◌, subst, arith, get_or, not, replicate}
+use Rattle.std.specs.Prelude.{All, filter, IsPermutation, slice_get}
 use Rattle.std.proofs.Common.{zero, suc, ◌≤◌, Option, Bool}
 use Rattle.std.proofs.lemmas.List.Sorted.{IsPermutation-sym}
 use Rattle.std.specs.Prelude.{unwrap_or}
@@ -15,7 +15,7 @@ use Rattle.fleet_base.specs.declared.request.Request.{Request}
 use Rattle.fleet_base.specs.Terrain.{Terrain}
 use Rattle.fleet_base.specs.TimedWalk.{TimedWalk, position}
 use Rattle.fleet_base.specs.Planned.{IsFree, IsWalkOf}
-use Rattle.fleet_base.specs.Stays.{HoldsTime, IsStay, AreTheStays}
+use Rattle.fleet_base.specs.Stays.{HoldsTime, IsStay}
 use Rattle.fleet_base.specs.History.{same_id}
 use Rattle.fleet_base.specs.Order.{IsAmong}
 use Rattle.fleet_base.proofs.OrderLemmas.{IsAmong-filter, IsAmong-from_filter}
@@ -25,7 +25,7 @@ use Rattle.fleet_base.proofs.WalkLemmas.{position_within, nat_cases}
 use Rattle.calendars.specs.Records.{covers}
 use Rattle.plain_book.specs.Kept.{records_at, stay_in, IsRouteRecord, IsPlaced, AreCalendarsOf}
 use Rattle.plain_book.specs.Changes.{HasSomeOf, HasAllOf, LacksId}
-use Rattle.plain_book.proofs.Members.{among_at, among_all, among_any, among_permutation, id_cases, other_id, other_id-true}
+use Rattle.plain_book.proofs.Members.{among_all, among_any, among_permutation, id_cases, other_id, other_id-true}
 use Rattle.plain_book.proofs.Placing.{among_cells, stood_from}
 use Rattle.plain_book.proofs.KeptTraffic.{HasEachOnce, taken_alike}
 

@@ -1,24 +1,20 @@
 -- The calendars of the live routes make the traffic of the routes.
-use Rattle.std.proofs.Common.{◌≡◌, ◌≢◌, ℕ, ◌+◌, ◌⊎◌, inl, inr, true, List, Option, Some, None, refl, sym, ap, ◌∙◌, subst, arith}
-use Rattle.std.specs.Prelude.{◌==◌, ◌&&◌, ◌||◌, nat_le, IsPermutation}
+use Rattle.std.proofs.Common.{◌≡◌, ◌≢◌, ℕ, ◌+◌, inl, true, List, Option, Some, None, sym, ◌∙◌, subst, arith}
+use Rattle.std.specs.Prelude.{◌==◌, ◌&&◌, IsPermutation}
 use Rattle.std.specs.List.{list_any}
 use Rattle.std.specs.Cmp.{both_ways}
 use Rattle.std.proofs.lemmas.Bool.{and_parts, and_from, eq-eqb, eqb-true}
 use Rattle.std.proofs.lemmas.List.Sorted.{list_any-IsPermutation}
 use Rattle.fleet_base.specs.declared.grid.Cell.{Cell}
-use Rattle.fleet_base.specs.declared.request.RouteId.{RouteId}
 use Rattle.fleet_base.specs.declared.request.Record.{Record}
 use Rattle.fleet_base.specs.declared.request.Request.{Request}
 use Rattle.fleet_base.specs.declared.request.Stay.{Stay}
 use Rattle.fleet_base.specs.declared.request.Live.{Live}
-use Rattle.fleet_base.specs.Terrain.{Terrain}
 use Rattle.fleet_base.specs.TimedWalk.{TimedWalk, position}
-use Rattle.fleet_base.specs.Planned.{IsWalkOf, NoneFree}
 use Rattle.fleet_base.specs.Stays.{HoldsTime, IsStay}
 use Rattle.fleet_base.specs.History.{same_id}
 use Rattle.fleet_base.specs.Order.{IsAmong}
-use Rattle.fleet_base.specs.Traffic.{Traffic, IsFreeIn, is_on, traffic_of}
-use Rattle.fleet_base.specs.Canonical.{IsCanonical}
+use Rattle.fleet_base.specs.Traffic.{is_on, traffic_of}
 use Rattle.fleet_base.proofs.TrafficLemmas.{is_on-true, is_on-some, free_in_traffic}
 use Rattle.fleet_base.proofs.StayFacts.{stay_at, ends_at_move, begins_at_move}
 use Rattle.fleet_base.proofs.CanonicalLemmas.{canonical_is_least}
@@ -26,8 +22,7 @@ use Rattle.calendars.specs.Records.{holds_time, covers, begins_as, ends_into, is
 use Rattle.calendars.specs.Assignments.{traffic_by}
 use Rattle.calendars.proofs.RecordLemmas.{holds_from}
 use Rattle.plain_book.specs.BookState.{BookState}
-use Rattle.plain_book.specs.Replies.{IsCanonicalIn}
-use Rattle.plain_book.specs.Kept.{records_at, stay_in, IsRouteRecord, IsPlaced, AreCalendarsOf}
+use Rattle.plain_book.specs.Kept.{records_at, IsRouteRecord, IsPlaced, AreCalendarsOf}
 use Rattle.plain_book.specs.Found.{FindsWalk, PlansWalk}
 use Rattle.plain_book.proofs.Members.{among_any, among_list_any, list_any_among, same_id-true, same_id-from}
 use Rattle.plain_book.proofs.Placing.{holds_from_true}

@@ -8,3 +8,4 @@ pub mod Entries
 pub mod Answering
 pub mod Books
 pub mod Entering
+pub mod Resuming

@@ -1,5 +1,5 @@
 -- One record more in a list of calendars, and one id less: step by step.
-use Rattle.std.proofs.Common.{◌≡◌, ◌≢◌, ℕ, ◌+◌, ◌<◌, ◌≤◌, ◌⊎◌, inl, inr, Bool, true, false, List, [], ◌∷◌, ◌++◌, length, refl, sym, ap, ◌∙◌, subst, arith, get_or, set, take, get_or-set_same, get_or-set_other}
+use Rattle.std.proofs.Common.{◌≡◌, ◌≢◌, ℕ, ◌+◌, ◌<◌, ◌⊎◌, inl, inr, true, false, List, [], ◌∷◌, ◌++◌, length, refl, sym, ap, ◌∙◌, subst, arith, get_or, set, take, get_or-set_same, get_or-set_other}
 use Rattle.std.specs.Prelude.{All, ◌||◌, ◌==◌, ◌-◌, nat_le, Some, slice_get}
 use Rattle.std.proofs.lemmas.Option.{same_Some, slice_get-get_or, slice_get_within, get_or_from_slice_get}
 use Rattle.std.proofs.lemmas.List.{take_more, set-get_or}
@@ -14,11 +14,11 @@ use Rattle.fleet_base.specs.TimedWalk.{TimedWalk, position, place_after}
 use Rattle.fleet_base.specs.Stays.{HoldsTime, IsStay, AreTheStays}
 use Rattle.fleet_base.specs.Order.{IsAmong}
 use Rattle.fleet_base.proofs.TrafficLemmas.{not_true}
-use Rattle.fleet_base.proofs.WalkLemmas.{nat_cases, position_since, stood_since}
+use Rattle.fleet_base.proofs.WalkLemmas.{position_since, stood_since}
 use Rattle.calendars.specs.Records.{holds_time, covers, with_record, without_id, IsApart}
-use Rattle.plain_book.specs.Kept.{records_at, stay_in, IsPlaced}
+use Rattle.plain_book.specs.Kept.{records_at, stay_in}
 use Rattle.plain_book.specs.Changes.{ShareNoTime, FitIn, HasSome, HasAll, HasSomeOf, HasAllOf, LacksId}
-use Rattle.plain_book.proofs.Members.{among_at, among_all, all_among, among_list_any, list_any_among, among_left, among_right, among_append, place_in_take, among_with, new_among_with, old_among_with, among_without, was_among, without_has_not}
+use Rattle.plain_book.proofs.Members.{among_at, among_all, among_list_any, list_any_among, among_left, among_right, among_append, place_in_take, among_with, new_among_with, old_among_with, among_without, was_among, without_has_not}
 
 -- the calendars of two times
 pub HasSome-none : (calendars : List (List Record)) → HasSome calendars calendars []

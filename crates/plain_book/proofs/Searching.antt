@@ -1,5 +1,5 @@
 -- What the answer of a search over all calendars says.
-use Rattle.std.proofs.Common.{◌≡◌, ℕ, List, Some, [], ap, sym, subst, ◌∙◌}
+use Rattle.std.proofs.Common.{◌≡◌, ℕ, List, Some, [], subst}
 use Rattle.std.specs.Prelude.{slice_get}
 use Rattle.std.proofs.lemmas.Option.{get_or_from_slice_get}
 use Rattle.fleet_base.specs.declared.request.Record.{Record}
@@ -13,7 +13,7 @@ use Rattle.sipp_search.specs.declared.answer.Found.TheVariants.{Route, NoRoute}
 use Rattle.sipp_search.specs.Answer.{IsAnswerOf}
 use Rattle.plain_book.specs.Kept.{records_at}
 use Rattle.plain_book.specs.Found.{FindsWalk}
-use Rattle.std.proofs.Common.{Option, None}
+use Rattle.std.proofs.Common.{None}
 
 agrees_with : (calendars seen : List (List Record)) → seen ≡ calendars → Agrees (records_at calendars) (slice_get seen)
 agrees_with calendars seen same c records at =

@@ -18,3 +18,8 @@ pub record LeadsTo (p : Past) (s : BookState) : Type 0 where
   pub era : p.era ≡ s.era
   pub stamps : All (λ id. id.stamp ≤ s.stamp) p.replies
   pub live_stamps : All (λ r. r.id.stamp ≤ s.stamp) s.routes
+
+-- the grid and the horizon never change
+pub record IsOnSameGrid (old new : BookState) : Type 0 where
+  pub grid : new.grid ≡ old.grid
+  pub horizon : new.horizon ≡ old.horizon

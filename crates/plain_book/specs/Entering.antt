@@ -1,5 +1,5 @@
 -- A route that comes into a book.
-use Rattle.std.specs.Prelude.{◌≡◌, ◌≢◌, ℕ, ◌<◌, List, ◌∷◌, length, All, IsPermutation, max}
+use Rattle.std.specs.Prelude.{◌≡◌, ◌≢◌, ℕ, ◌<◌, List, ◌∷◌, All, IsPermutation, max}
 use Rattle.fleet_base.specs.declared.grid.Cell.{Cell}
 use Rattle.fleet_base.specs.declared.request.RouteId.{RouteId}
 use Rattle.fleet_base.specs.declared.request.Live.{Live}

@@ -1,8 +1,8 @@
 -- What a search among calendars gives, and what that means among live routes.
-use Rattle.std.specs.Prelude.{◌≡◌, ℕ, ◌≤◌, Option, Some, None}
+use Rattle.std.specs.Prelude.{ℕ, Option, Some, None}
 use Rattle.fleet_base.specs.declared.request.Request.{Request}
 use Rattle.fleet_base.specs.Terrain.{Terrain}
-use Rattle.fleet_base.specs.TimedWalk.{TimedWalk, arrival}
+use Rattle.fleet_base.specs.TimedWalk.{TimedWalk}
 use Rattle.fleet_base.specs.Planned.{IsWalkOf, NoneFree}
 use Rattle.fleet_base.specs.Traffic.{Traffic, IsFreeIn}
 use Rattle.fleet_base.specs.Canonical.{IsCanonical}

@@ -39,6 +39,7 @@ impl Model for PlainBook {
 }
 
 impl PlainBook {
+    ghost use Rattle.plain_book.specs.BookState.{IsOnSameGrid};
     ghost use Rattle.plain_book.specs.Replies.{IsReplyTo, EndsRoute};
     ghost use Rattle.plain_book.specs.History.{AnswersBook};
     ghost use Rattle.plain_book.specs.Resuming.{AreLive, HasRoutes};
@@ -104,7 +105,9 @@ impl PlainBook {
         requires room { self.old.stamp < 67108863 }
         ensures reply { IfOk result (λ e. IsReplyTo self.old caller request e self.new) }
         ensures history { IfOk result (λ e. AnswersBook self.old self.new e) }
+        ensures counts { IfOk result (λ _. (self.new.stamp ≡ self.old.stamp + 1) × (self.new.era ≡ self.old.era)) }
         ensures refused { OnErr result (self.new ≡ self.old) }
+        ensures frame { IsOnSameGrid self.old self.new }
     {
         let Some(walk) = self.find_walk(request)? else {
             return Ok(self.refuse(caller, request));
@@ -144,6 +147,8 @@ impl PlainBook {
         requires none_free { NoneFree self.old.grid self.old.horizon request self.old.routes }
         ensures reply { IsReplyTo self.old caller request result self.new }
         ensures history { AnswersBook self.old self.new result }
+        ensures counts { (self.new.stamp ≡ self.old.stamp + 1) × (self.new.era ≡ self.old.era) }
+        ensures frame { IsOnSameGrid self.old self.new }
     {
         self.stamp += 1;
         Entry::NoRoute {
@@ -159,6 +164,7 @@ impl PlainBook {
         requires { MayEnter self.old.routes (length self.old.grid.cells) id walk }
         ensures ok { OnOk result (HasEntered self.old id walk self.new) }
         ensures refused { OnErr result (self.new ≡ self.old) }
+        ensures frame { IsOnSameGrid self.old self.new }
     {
         add_route(self.alloc, &mut self.calendars, &mut self.routes, id, walk)?;
         self.stamp = self.stamp.max(id.stamp);
@@ -171,6 +177,8 @@ impl PlainBook {
         requires { self.old.era < 1099511627775 }
         ensures ok { IfOk result (λ e. EndsRoute self.old id e self.new) }
         ensures history { IfOk result (λ e. AnswersBook self.old self.new e) }
+        ensures counts { IfOk result (λ _. (self.new.stamp ≡ self.old.stamp) × (self.new.era ≡ self.old.era + 1)) }
+        ensures frame { IsOnSameGrid self.old self.new }
         ensures refused { OnErr result (self.new ≡ self.old) }
         ensures not_live { OnErr result (¬ (IsLive id self.old.routes)) }
     {

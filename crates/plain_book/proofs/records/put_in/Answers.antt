@@ -2,7 +2,7 @@ use Rattle.std.proofs.Common.{sym, subst, List}
 use Rattle.std.proofs.lemmas.Result.{err_from_is_err_and}
 use Rattle.fleet_base.specs.declared.request.Stay.{Stay}
 use Rattle.fleet_base.specs.Stays.{AreTheStays}
-use Rattle.plain_book.proofs.Placing.{stays_fit, some_of_stays, all_of_stays, nothing_of}
+use Rattle.plain_book.proofs.Placing.{stays_fit, some_of_stays, all_of_stays}
 use Rattle.plain_book.proofs.records.put_in.Goals as goal
 
 pub put_records-requires : goal.put_records-requires

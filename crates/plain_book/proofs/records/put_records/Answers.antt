@@ -1,8 +1,6 @@
-use Rattle.std.proofs.Common.{◌∙◌, rules, ap, sym, subst, List, ◌<◌, length, ℕ, get_or}
+use Rattle.std.proofs.Common.{sym, subst, ◌<◌, ℕ, get_or}
 use Rattle.std.proofs.lemmas.Result.{err_from_is_err_and}
-use Rattle.fleet_base.specs.declared.request.Record.{Record}
 use Rattle.fleet_base.specs.declared.request.Stay.{Stay}
-use Rattle.calendars.specs.Records.{IsApart}
 use Rattle.plain_book.proofs.Placing.{put_step, refused_step, apart_step}
 use Rattle.plain_book.proofs.records.put_records.Goals as goal
 

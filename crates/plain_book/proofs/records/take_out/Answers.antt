@@ -1,6 +1,4 @@
-use Rattle.std.proofs.Common.{◌≡◌, ◌<◌, length, sym, subst, ℕ}
-use Rattle.fleet_base.specs.declared.grid.Cell.{Cell}
-use Rattle.std.proofs.Common.{List, get_or}
+use Rattle.std.proofs.Common.{length}
 use Rattle.plain_book.proofs.Placing.{taken_step, below_old}
 use Rattle.plain_book.proofs.records.take_out.Goals as goal
 

@@ -1,7 +1,6 @@
-use Rattle.std.proofs.Common.{◌≡◌, ◌∙◌, ap, sym, subst, List}
+use Rattle.std.proofs.Common.{◌≡◌, ap, sym, subst, List}
 use Rattle.std.specs.Prelude.{IsPermutation, ◌∷◌}
 use Rattle.fleet_base.specs.declared.request.RouteId.{RouteId}
-use Rattle.fleet_base.specs.declared.request.Live.{Live}
 use Rattle.fleet_base.specs.TimedWalk.{TimedWalk}
 use Rattle.plain_book.specs.Kept.{routes_of, AreCalendarsOf}
 use Rattle.plain_book.specs.Changes.{LacksId}

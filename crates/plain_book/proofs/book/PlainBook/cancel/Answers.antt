@@ -1,6 +1,4 @@
-use Rattle.std.proofs.Common.{◌∙◌, ap, refl, sym, subst, List}
-use Rattle.fleet_base.specs.declared.request.RouteId.{RouteId}
-use Rattle.fleet_base.specs.TimedWalk.{TimedWalk}
+use Rattle.std.proofs.Common.{◌∙◌, refl, subst, List}
 use Rattle.std.proofs.lemmas.List.Sorted.{IsPermutation-refl}
 use Rattle.std.specs.Prelude.{IsPermutation}
 use Rattle.fleet_base.specs.declared.request.Live.{Live}

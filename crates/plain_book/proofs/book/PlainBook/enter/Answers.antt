@@ -1,5 +1,4 @@
-use Rattle.std.proofs.Common.{ℕ, List, sym, subst, ◌∙◌}
-use Rattle.plain_book.specs.Kept.{IsKept}
+use Rattle.std.proofs.Common.{◌∙◌}
 use Rattle.plain_book.proofs.Books.{kept_added}
 use Rattle.plain_book.proofs.book.PlainBook.enter.Goals as goal
 

@@ -1,4 +1,4 @@
-use Rattle.std.proofs.Common.{rules, List, subst, sym}
+use Rattle.std.proofs.Common.{List, subst}
 use Rattle.std.proofs.lemmas.Result.{IfOk-weaker}
 use Rattle.fleet_base.specs.declared.request.Record.{Record}
 use Rattle.calendars.specs.Assignments.{traffic_by}

@@ -1,5 +1,5 @@
-use Rattle.std.proofs.Common.{◌+◌, ◌∙◌, ap, subst, refl, ℕ, ◌≤◌}
-use Rattle.std.specs.Prelude.{All, Some}
+use Rattle.std.proofs.Common.{◌+◌, ap, subst, ℕ, ◌≤◌}
+use Rattle.std.specs.Prelude.{All}
 use Rattle.fleet_base.specs.declared.request.RouteId.{RouteId}
 use Rattle.fleet_base.specs.declared.request.Live.{Live}
 use Rattle.plain_book.specs.BookState.{BookState}
