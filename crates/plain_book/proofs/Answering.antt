@@ -93,10 +93,13 @@ pub end_answers : (old : BookState) (id : RouteId) (e : Entry) (new : BookState)
 end_answers old id e new is =
     subst (λ (x : Entry). AnswersBook old new x) (sym is.entry_is)
     (record {
-      follows = λ p lead. (record {
-        in_era = sym lead.era;
-        live = list_any-IsPermutation (λ r. same_id r.id id) p.book old.routes lead.routes ∙ is.was_live;
-      }, tt);
+      follows = λ p lead. (
+        record {
+          in_era = sym lead.era;
+          live = list_any-IsPermutation (λ r. same_id r.id id) p.book old.routes lead.routes ∙ is.was_live;
+        },
+        tt,
+      );
       leads = λ p lead.
           let same = Reorder-is_permutation (Reorder-filter (λ (r : Live). not (same_id r.id id)) (Reorder-from_permutation p.book old.routes lead.routes)) in
           let back = IsPermutation-sym new.routes (filter (λ r. not (same_id r.id id)) old.routes) is.routes_are in

@@ -141,7 +141,7 @@ remove_filters id (e ∷ es) ordered =
 
     at : (b : Bool) → b ≡ same_id e.0 id → routes_of (remove_entry (is_at (id_cmp id)) es) ≡ filter (λ r. not (same_id r.id id)) (routes_of es)
         → routes_of (cond b es (e ∷ remove_entry (is_at (id_cmp id)) es))
-            ≡ cond (not (same_id e.0 id)) (live_of e ∷ filter (λ r. not (same_id r.id id)) (routes_of es)) (filter (λ r. not (same_id r.id id)) (routes_of es))
+        ≡ cond (not (same_id e.0 id)) (live_of e ∷ filter (λ r. not (same_id r.id id)) (routes_of es)) (filter (λ r. not (same_id r.id id)) (routes_of es))
     at true is rest =
         let key : e.0 ≡ id = same_id-true e.0 id (sym is) in
         sym (keeps (routes_of es) (λ m h same. later_differs e es ordered m h (same ∙ sym key)))

@@ -51,7 +51,7 @@ module _ (routes : List Live) (calendars : List (List Record)) (are : AreCalenda
           let found = among_list_any (λ (r : Live). is_on c (position r.walk t)) routes taken in
           let placed : IsPlaced calendars found.0 = are.whole found.0 found.1 in
           let stay = among_any (λ (s : Stay). IsStay found.0.walk found.0.id s × ((s.cell ≡ c) × HoldsTime s.span t)) placed.stays
-              (stay_at found.0.walk found.0.id placed.stays placed.are t c (is_on-true c (position found.0.walk t) found.2)) in
+          (stay_at found.0.walk found.0.id placed.stays placed.are t c (is_on-true c (position found.0.walk t) found.2)) in
           list_any_among (holds_time t) stay.0.span (records_at calendars c.0)
           (subst (λ (d : Cell). IsAmong stay.0.span (records_at calendars d.0)) stay.2.1.0 (placed.placed stay.0 stay.1))
           (holds_time-from stay.0.span t stay.2.1.1)
@@ -85,9 +85,9 @@ module _ (routes : List Live) (calendars : List (List Record)) (are : AreCalenda
         let next : position found.0.walk (t + 1) ≡ Some c = is_on-true c _ on.1 in
         let placed : IsPlaced calendars found.0 = are.whole found.0 found.1 in
         let leaves = among_any (λ (s : Stay). IsStay found.0.walk found.0.id s × ((s.cell ≡ d) × (s.span.to ≡ t))) placed.stays
-            (ends_at_move found.0.walk found.0.id placed.stays placed.are t d c here next (λ same. differ (sym same))) in
+        (ends_at_move found.0.walk found.0.id placed.stays placed.are t d c here next (λ same. differ (sym same))) in
         let comes = among_any (λ (s : Stay). IsStay found.0.walk found.0.id s × ((s.cell ≡ c) × (s.span.from ≡ t + 1))) placed.stays
-            (begins_at_move found.0.walk found.0.id placed.stays placed.are t d c here next (λ same. differ (sym same))) in
+        (begins_at_move found.0.walk found.0.id placed.stays placed.are t d c here next (λ same. differ (sym same))) in
         let leaves_in : IsAmong leaves.0.span (records_at calendars d.0) = subst (λ (x : Cell). IsAmong leaves.0.span (records_at calendars x.0)) leaves.2.1.0 (placed.placed leaves.0 leaves.1) in
         let comes_in : IsAmong comes.0.span (records_at calendars c.0) = subst (λ (x : Cell). IsAmong comes.0.span (records_at calendars x.0)) comes.2.1.0 (placed.placed comes.0 comes.1) in
         let begins : list_any (begins_as (t + 1) leaves.0.span.id) (records_at calendars c.0) ≡ true =

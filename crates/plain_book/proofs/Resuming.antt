@@ -43,8 +43,10 @@ module _ (g : Terrain) (horizon stamp era : ℕ) (routes first rest : List Live)
       let on : IsWalkOn g horizon live.walk = among_all (λ (r : Live). IsWalkOn g horizon r.walk) live routes are.walks is_among in
       record {
         inside = subst (λ (s : BookState). All (λ c. c.0 < length s.grid.cells) live.walk.cells) (sym has.rest_is) (walk_inside g horizon on.request live.walk on.walk_of);
-        free = record { clear = in_book (IsClearOf live.walk) (All-weaker (λ (r : Live). ¬ (Meet r.walk live.walk)) (IsClearOf live.walk) (λ r apart met. apart (Meet-sym live.walk r.walk met)) first
-            (before_middle (λ (r s : Live). ¬ (Meet r.walk s.walk)) routes first live rest parts are.apart)) };
+        free = record {
+          clear = in_book (IsClearOf live.walk) (All-weaker (λ (r : Live). ¬ (Meet r.walk live.walk)) (IsClearOf live.walk) (λ r apart met. apart (Meet-sym live.walk r.walk met)) first
+              (before_middle (λ (r s : Live). ¬ (Meet r.walk s.walk)) routes first live rest parts are.apart));
+        };
         new_id = in_book (λ r. r.id ≢ live.id) (before_middle (λ (r s : Live). r.id ≢ s.id) routes first live rest parts are.ids);
       }
 

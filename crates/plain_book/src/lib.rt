@@ -10,6 +10,8 @@ mod finding;
 mod lent;
 mod records;
 mod routes;
+#[cfg(test)]
+mod tests;
 
 pub use book::{NotLive, PlainBook};
 pub use fleet_base::Live;
