@@ -2,7 +2,7 @@
 use Rattle.std.proofs.Common.{◌≡◌, ◌≢◌, ℕ, ◌+◌, ◌<◌, ◌⊎◌, inl, inr, true, false, List, [], ◌∷◌, ◌++◌, length, refl, sym, ap, ◌∙◌, subst, arith, get_or, set, take, get_or-set_same, get_or-set_other}
 use Rattle.std.specs.Prelude.{All, ◌||◌, ◌==◌, ◌-◌, nat_le, Some, slice_get}
 use Rattle.std.proofs.lemmas.Option.{same_Some, slice_get-get_or, slice_get_within, get_or_from_slice_get}
-use Rattle.std.proofs.lemmas.List.{take_more, set-get_or}
+use Rattle.std.proofs.lemmas.List.{take_more, set-get_or, get_or-take, length-take-le}
 use Rattle.std.proofs.lemmas.Bool.{cases_eq, and_parts, or_cases, leb-true, eqb-true}
 use Rattle.fleet_base.specs.declared.grid.Cell.{Cell}
 use Rattle.fleet_base.specs.declared.request.RouteId.{RouteId}
@@ -13,7 +13,7 @@ use Rattle.fleet_base.specs.declared.request.TheConstants.{FOREVER}
 use Rattle.fleet_base.specs.TimedWalk.{TimedWalk, position, place_after}
 use Rattle.fleet_base.specs.Stays.{HoldsTime, IsStay, AreTheStays}
 use Rattle.fleet_base.specs.Order.{IsAmong}
-use Rattle.fleet_base.proofs.TrafficLemmas.{not_true}
+use Rattle.fleet_base.proofs.TrafficLemmas.{not_true, same_cells}
 use Rattle.fleet_base.proofs.WalkLemmas.{position_since, stood_since}
 use Rattle.calendars.specs.Records.{holds_time, covers, with_record, without_id, IsApart}
 use Rattle.plain_book.specs.Kept.{records_at, stay_in}
@@ -158,6 +158,26 @@ taken_step id old mid cells i d e new within below is lacks =
     subst (λ (rs : List Record). LacksId id (take (i + 1) cells) old (set mid (get_or cells i d).0 rs)) same
     (subst (λ (cs : List Cell). LacksId id cs old (set mid (get_or cells i d).0 (without_id id (records_at mid (get_or cells i d).0)))) (sym (take_more cells i d within))
     (LacksId-push id old mid (get_or cells i d) (take i cells) below lacks))
+
+-- where the walk waits
+pub again_step : (id : RouteId) (old mid : List (List Record)) (cells : List Cell) (i : ℕ) (d : Cell) → i < length cells → 0 < i → (get_or cells (i - 1) d).0 ≡ (get_or cells i d).0
+    → LacksId id (take i cells) old mid → LacksId id (take (i + 1) cells) old mid
+again_step id old mid cells i d within later same lacks = record {
+  kept = lacks.kept;
+  only = lacks.only;
+  gone = λ c r h after. elim (among_append c (take i cells) (get_or cells i d ∷ []) (subst (λ (cs : List Cell). IsAmong c cs) (take_more cells i d within) h)) [
+    | inl earlier ↦ lacks.gone c r earlier after
+    | inr last ↦ elim last [
+      | inl is ↦ lacks.gone c r (subst (λ (x : Cell). IsAmong x (take i cells)) (same_cells (get_or cells (i - 1) d) (get_or cells i d) same ∙ is) (before i cells later within)) after
+      | inr never ↦ absurd never
+    ]
+  ];
+}
+  where
+    before : (i : ℕ) (cells : List Cell) → 0 < i → i < length cells → IsAmong (get_or cells (i - 1) d) (take i cells)
+    before i cells later within =
+        subst (λ (x : Cell). IsAmong x (take i cells)) (get_or-take i cells (i - 1) d (omega arith))
+        (among_at (take i cells) (i - 1) d (omega (arith, length-take-le i cells (omega arith))))
 
 pub put_step : (old mid : List (List Record)) (stays : List Stay) (i : ℕ) (d : Stay) (e new : List Record) → i < length stays
     → (get_or stays i d).cell.0 < length mid → new ≡ with_record (get_or stays i d).span (get_or mid (get_or stays i d).cell.0 e) → HasAll old mid (take i stays)

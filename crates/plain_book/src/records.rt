@@ -55,7 +55,12 @@ pub fn take_out(calendars: &mut [Calendar], walk: &Walk, id: RouteId)
     requires { All (λ c. c.0 < length calendars.old) walk.now.cells }
     ensures { LacksId id walk.now.cells calendars.old calendars.new }
 {
-    for cell in walk.cells() {
+    let cells = walk.cells();
+    for (place, cell) in cells.iter().enumerate() {
+        // While the agent waits, its records are gone already.
+        if place > 0 && cells[place - 1] == *cell {
+            continue;
+        }
         let calendar = &mut calendars[cell.0 as usize];
         calendar.remove_id(id);
     }

@@ -6,19 +6,19 @@ use fleet_base::{Cell, Entry, Grid, Live, Memory, Request, RouteId, Walk};
 use std::alloc::Global;
 use std::test::Fail;
 
-fn grid_of(alloc: Global, size: (u32, u32), open: &[bool]) -> Result<Grid, Memory>
-    requires { IsTerrain (record { width = size.0; height = size.1; cells = open.now }) }
-    ensures { IfOk result (λ g. g ≡ record { width = size.0; height = size.1; cells = open.now }) }
+fn grid_of(alloc: Global, size: (u32, u32), marks: &[bool]) -> Result<Grid, Memory>
+    requires { IsTerrain (record { width = size.0; height = size.1; cells = marks.now }) }
+    ensures { IfOk result (λ g. g ≡ record { width = size.0; height = size.1; cells = marks.now }) }
 {
-    let cells = open.iter().copied().collect(alloc)?;
+    let cells = marks.iter().copied().collect(alloc)?;
     Ok(Grid::new(size.0, size.1, cells))
 }
 
-fn book_of(alloc: Global, size: (u32, u32), open: &[bool]) -> Result<PlainBook, Memory>
-    requires { IsTerrain (record { width = size.0; height = size.1; cells = open.now }) }
-    ensures { IfOk result (λ b. b ≡ record { grid = record { width = size.0; height = size.1; cells = open.now }; horizon = 20; routes = []; stamp = 0; era = 0 }) }
+fn book_of(alloc: Global, size: (u32, u32), marks: &[bool]) -> Result<PlainBook, Memory>
+    requires { IsTerrain (record { width = size.0; height = size.1; cells = marks.now }) }
+    ensures { IfOk result (λ b. b ≡ record { grid = record { width = size.0; height = size.1; cells = marks.now }; horizon = 20; routes = []; stamp = 0; era = 0 }) }
 {
-    let grid = grid_of(alloc, size, open)?;
+    let grid = grid_of(alloc, size, marks)?;
     PlainBook::new(alloc, grid, 20)
 }
 
