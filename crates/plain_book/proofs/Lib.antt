@@ -6,6 +6,7 @@ pub mod Keeping
 pub mod Searching
 pub mod Entries
 pub mod Answering
+pub mod Histories
 pub mod Books
 pub mod Entering
 pub mod Resuming
