@@ -24,9 +24,9 @@ use Rattle.sipp_search.specs.declared.states.State.{State}
 use Rattle.sipp_search.specs.declared.states.Mark.{Mark}
 use Rattle.sipp_search.specs.declared.states.Mark.TheVariants.{Unseen, Queued, Final}
 use Rattle.sipp_search.specs.Marks.{spots_of, final, one_if_final, final_count}
-use Rattle.sipp_search.specs.Answer.{IsSettled, IsDue, IsTable, IsRoute, IsNoRoute, IsAsked, IsNeeded}
+use Rattle.sipp_search.specs.Answer.{IsSettled, IsDue, IsTable, IsRoute, IsNoRoute, IsBestWalk, IsAsked, IsNeeded}
 use Rattle.sipp_search.specs.Progress.{IsBound, IsWithin, HasFinal}
-use Rattle.sipp_search.specs.Running.{IsOver, EndsAt, Ends, IsLoadedFor, LoadsFor}
+use Rattle.sipp_search.specs.Running.{IsOver, EndsAt, Ends, IsLoadedFor, LoadsFor, LoadsInAll}
 use Rattle.sipp_search.specs.Tabled.{settled_of, entry_by, entry_of, table_from}
 use Rattle.sipp_search.proofs.Lists.{stands_map}
 use Rattle.sipp_search.proofs.Moves.{IsReached, reached_open}
@@ -240,13 +240,21 @@ pub needed_first : (g : Terrain) (q : Request) (table : List Settled) (n : ℕ) 
 needed_first g q table n (inl e) = (q.start, inl refl, inl (sym e))
 needed_first g q table n (inr e) = (q.goal, inr (inl refl), inl (sym e))
 
-pub loads_needed : (g : Terrain) (q : Request) (states : List State) (table : List Settled) (first begun last : ℕ → Option (List Record)) → table ≡ table_from states
-    → ((n : ℕ) → IsSome (begun n) → IsSome (first n) ⊎ ((n ≡ q.start.0) ⊎ (n ≡ q.goal.0))) → LoadsFor g begun last states
-    → (n : ℕ) → IsSome (last n) → IsSome (first n) ⊎ IsNeeded g q table n
-loads_needed g q states table first begun last table_is begins loads n is = elim (loads n is) [
-  | inr for ↦ inr (needed g q states table n table_is for)
-  | inl known ↦ elim (begins n known) [
-    | inl before ↦ inl before
-    | inr asked ↦ inr (needed_first g q table n asked)
-  ]
+-- what was loaded at the beginning, and then for final states
+pub loads_all : (g : Terrain) (q : Request) (states : List State) (first begun last : ℕ → Option (List Record))
+    → ((n : ℕ) → IsSome (begun n) → IsSome (first n) ⊎ ((n ≡ q.start.0) ⊎ (n ≡ q.goal.0))) → LoadsFor g begun last states → LoadsInAll g q first last states
+loads_all g q states first begun last begins loads n is = elim (loads n is) [
+  | inr for ↦ inr (inr for)
+  | inl known ↦ elim (begins n known) [ inl before ↦ inl before | inr asked ↦ inr (inl asked) ]
 ]
+
+pub loads_needed : (g : Terrain) (q : Request) (states : List State) (table : List Settled) (first last : ℕ → Option (List Record)) → table ≡ table_from states → LoadsInAll g q first last states
+    → (n : ℕ) → IsSome (last n) → IsSome (first n) ⊎ IsNeeded g q table n
+loads_needed g q states table first last table_is loads n is = elim (loads n is) [
+  | inl before ↦ inl before
+  | inr now ↦ elim now [ inl asked ↦ inr (needed_first g q table n asked) | inr for ↦ inr (needed g q states table n table_is for) ]
+]
+
+-- the route without its table
+pub best_walk : (g : Terrain) (horizon : ℕ) (a : Assignment) (q : Request) (w : TimedWalk) (table : List Settled) → IsRoute g horizon a q w table → IsBestWalk g horizon a q w
+best_walk g horizon a q w table route = record { canonical = route.canonical; walk_of = route.walk_of; free = route.free; least = route.least }

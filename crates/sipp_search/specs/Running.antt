@@ -108,3 +108,7 @@ pub record IsTaken (arena : Arena) (taken : Taken) : Type 0 where
 -- only cells of final states and cells beside them were loaded
 abbrev pub LoadsFor : Terrain → (ℕ → Option (List Record)) → (ℕ → Option (List Record)) → List State → Type 0
 LoadsFor g old new states = (n : ℕ) → IsSome (new n) → IsSome (old n) ⊎ IsLoadedFor g states n
+
+-- only the cells of start and goal, those of final states and cells beside these were loaded
+abbrev pub LoadsInAll : Terrain → Request → (ℕ → Option (List Record)) → (ℕ → Option (List Record)) → List State → Type 0
+LoadsInAll g q old new states = (n : ℕ) → IsSome (new n) → IsSome (old n) ⊎ (((n ≡ q.start.0) ⊎ (n ≡ q.goal.0)) ⊎ IsLoadedFor g states n)

@@ -1,23 +1,22 @@
-use Rattle.std.proofs.Common.{arith, subst, sym, ap, ◌∙◌, ℕ, length}
+use Rattle.std.proofs.Common.{arith, sym, ap, ◌∙◌, length}
 use Rattle.std.proofs.lemmas.List.{length-replicate}
 use Rattle.bucket_queue.specs.Queue.{Queue}
 use Rattle.sipp_search.specs.Answer.{table_in}
 use Rattle.sipp_search.specs.Marks.{spots_of, keys_of}
-use Rattle.sipp_search.specs.Progress.{IsUnderWay}
 use Rattle.sipp_search.proofs.Beginning.{bound_from, empty_arena_right}
 use Rattle.sipp_search.proofs.Answering.{loads_needed, table_length}
 use Rattle.sipp_search.proofs.sipp.search.Goals as goal
 
-pub begin-requires-clause-ready : goal.begin-requires-clause-ready
-begin-requires-clause-ready g c = record {
+pub settle-requires-clause-ready : goal.settle-requires-clause-ready
+settle-requires-clause-ready g c = record {
   distances_right = c.in_ok-distances.ensures;
   bound = bound_from c.args.grid.now c.args.request.goal c.in_ok-distances.distances c.in_ok-distances.ensures;
   size_is = c.requires.cells;
   in_range = c.requires.horizon.1;
 }
 
-pub begin-requires-clause-sound : goal.begin-requires-clause-sound
-begin-requires-clause-sound g c =
+pub settle-requires-clause-sound : goal.settle-requires-clause-sound
+settle-requires-clause-sound g c =
     let arena = c.in_ok-arena.ensures in
     record {
       paired = ap (λ (z : Queue). z.keys) arena.queue ∙ sym (ap keys_of arena.none);
@@ -27,31 +26,19 @@ begin-requires-clause-sound g c =
           c.in_ok-arena.arena.firsts.items (ap spots_of arena.none) arena.untouched;
     }
 
-pub run-requires-clause-ready : goal.run-requires-clause-ready
-run-requires-clause-ready g c = record {
-  distances_right = c.in_ok-distances.ensures;
-  bound = bound_from c.args.grid.now c.args.request.goal c.in_ok-distances.distances c.in_ok-distances.ensures;
-  size_is = c.in_ok-begin.ensures.cells ∙ c.requires.cells;
-  in_range = c.requires.horizon.1;
-}
-
-pub run-requires-clause-way : goal.run-requires-clause-way
-run-requires-clause-way g c = λ a x agrees.
-    subst (λ (n : ℕ). IsUnderWay c.args.grid.now c.args.request c.args.horizon a c.begin.new.arena.states.items n x) (sym c.in_ok-begin.ensures.floor) (c.in_ok-begin.ensures.way a x agrees)
-
 pub answer-requires-clause-ready : goal.answer-requires-clause-ready
 answer-requires-clause-ready g c = record {
   distances_right = c.in_ok-distances.ensures;
   bound = bound_from c.args.grid.now c.args.request.goal c.in_ok-distances.distances c.in_ok-distances.ensures;
-  size_is = c.in_ok-found.ensures.cells ∙ (c.in_ok-begin.ensures.cells ∙ c.requires.cells);
+  size_is = c.in_ok-found.ensures.cells ∙ c.requires.cells;
   in_range = c.requires.horizon.1;
 }
 
 pub returns-clause-loads : goal.returns-clause-loads
 returns-clause-loads g c =
-    loads_needed c.args.grid.now c.args.request c.run.new.arena.states.items (table_in c.in_ok-found-2.found) (g.V.CalendarView.known c.args.view.now) (g.V.CalendarView.known c.begin.new.view)
-    (g.V.CalendarView.known c.run.new.view) c.in_ok-found-2.ensures.table c.in_ok-begin.ensures.loads c.in_ok-found.ensures.loads
+    loads_needed c.args.grid.now c.args.request c.settle.new.arena.states.items (table_in c.in_ok-found-2.found) (g.V.CalendarView.known c.args.view.now)
+    (g.V.CalendarView.known c.settle.new.view) c.in_ok-found-2.ensures.table c.in_ok-found.ensures.loads
 
 pub returns-clause-counted : goal.returns-clause-counted
 returns-clause-counted g c =
-    omega (arith, c.in_ok-found.ensures.counted, table_length c.run.new.arena.states.items, ap length c.in_ok-found-2.ensures.table)
+    omega (arith, c.in_ok-found.ensures.counted, table_length c.settle.new.arena.states.items, ap length c.in_ok-found-2.ensures.table)
