@@ -29,3 +29,14 @@ fn takes_in_rising_order(rt: HostRuntime) {
         assert_eq!(rt; queue.take(limit), wanted, "up to {limit}");
     }
 }
+
+#[test]
+fn no_ids_after_clearing(rt: HostRuntime) {
+    let mut queue = three_ids(rt.alloc()).expect(&rt, "memory");
+    assert_eq!(rt; queue.take(2), Some(1));
+    queue.clear();
+    assert_eq!(rt; queue.take(9), None);
+    queue.add().expect(&rt, "memory");
+    queue.put(0, 1).expect(&rt, "memory");
+    assert_eq!(rt; queue.take(9), Some(0));
+}
