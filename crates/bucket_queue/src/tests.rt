@@ -1,8 +1,12 @@
+ghost use Rattle.std.specs.Prelude.{◌≡◌, IfOk};
+
 use super::*;
 use std::alloc::{AllocError, Global};
 
 // Three ids, of which the first is moved from the greatest key to a lesser one.
-fn three_ids(alloc: Global) -> Result<BucketQueue, AllocError> {
+fn three_ids(alloc: Global) -> Result<BucketQueue, AllocError>
+    ensures { IfOk result (λ q. q.bound ≡ 9) }
+{
     let mut queue = BucketQueue::new(alloc, 9)?;
     queue.add()?;
     queue.add()?;

@@ -1,6 +1,5 @@
-use Rattle.std.proofs.Common.{refl, sym, ap, ◌∙◌, ◌≡◌, ◌++◌, ◌∷◌, [], ℕ, List, Option, None, map}
+use Rattle.std.proofs.Common.{refl, ap, ◌∙◌, ◌≡◌, ◌++◌, ◌∷◌, [], ℕ, List, Option, None}
 use Rattle.std.proofs.lemmas.List.{map-append}
-use Rattle.bucket_queue.specs.declared.buckets.Spot.{Spot}
 use Rattle.bucket_queue.specs.Queue.{HasKey}
 use Rattle.bucket_queue.specs.Pairing.{key_at, keys_of, spot_keys}
 use Rattle.bucket_queue.proofs.QueueLemmas.{one_more, below_after, had_before_more}

@@ -1,4 +1,3 @@
-use Rattle.std.proofs.Common.{arith}
 use Rattle.bucket_queue.proofs.QueueLemmas.{low_empty, high_empty, cleared}
 use Rattle.bucket_queue.proofs.queue.BucketQueue.clear.Goals as goal
 
