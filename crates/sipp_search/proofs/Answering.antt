@@ -140,7 +140,7 @@ module _ (g : Terrain) (q : Request) (horizon : ℕ) (a : Assignment) (bound : I
       holds : (s : Settled) → IsSettled g horizon a q s → IsDue g q limit s → (k : ℕ) × (slice_get (table_from states) k ≡ Some s)
       holds s settled due =
           let reached : IsReached g q a s.cell s.arrival = steps_from_walk g q (traffic_by a) s.cell s.arrival settled.reachable in
-          let has = over.complete s.cell s.arrival due.left reached (record { left = due.left; distance = due.distance; below = omega arith }) due.in_time in
+          let has = over.complete s.cell s.arrival due.left reached (record { left = due.left; way = due.distance.way; below = omega arith }) due.in_time in
           let well = over.final_well has.place has.arrival has.spot has.stands in
           let safe : IsSafeInterval (a s.cell.0) horizon has.spot.interval =
           subst (λ (z : Cell). IsSafeInterval (a z.0) horizon has.spot.interval) has.cell_is (over.spots.safe has.place has.spot (spot_at has.place has.arrival has.spot has.stands)) in
@@ -159,7 +159,7 @@ module _ (g : Terrain) (q : Request) (horizon : ℕ) (a : Assignment) (bound : I
   arrival_final : (limit s : ℕ) → IsOver g q horizon a states limit → IsArrival g (traffic_by a) q s → s ≤ limit → HasFinal states q.goal s
   arrival_final limit s over is low =
       let reached : IsReached g q a q.goal s = steps_from_walk g q (traffic_by a) q.goal s is.reachable in
-      let zero_left : IsWithin g q.goal q.goal 0 = record { left = 0; distance = bound.zero_at_goal (reached_open g q a reached); below = omega arith } in
+      let zero_left : IsWithin g q.goal q.goal 0 = record { left = 0; way = (bound.zero_at_goal (reached_open g q a reached)).way; below = omega arith } in
       over.complete q.goal s 0 reached zero_left (omega arith)
 
   pub arrival_least : (t s : ℕ) → IsOver g q horizon a states t → EndsAt q a states t → IsArrival g (traffic_by a) q s → t ≤ s

@@ -22,6 +22,5 @@ mod tests;
 mod touch;
 
 pub use answer::{Found, Settled, Table};
-pub use searcher::Searcher;
-pub use sipp::search;
+pub use searcher::{Searcher, search};
 pub use steps::Steps;

@@ -33,7 +33,7 @@ fn walk_to<V: CalendarView>(
     arena: &Arena,
     arrival: u32,
 ) -> Result<Walk, Memory>
-    requires ready { IsReady task.now.grid.now task.now.request task.now.horizon task.now.distances.now (V.size view.now) }
+    requires ready { IsReady task.now.grid.now task.now.request task.now.horizon (V.size view.now) }
     requires sound { IsSound task.now.grid.now task.now.request task.now.horizon (V.known view.now) (V.size view.now) arena.now }
     requires in_time { arrival ≤ task.now.horizon }
     requires over { (a : Assignment) → Agrees a (V.known view.now) → IsOver task.now.grid.now task.now.request task.now.horizon a arena.now.states.items arrival }
@@ -53,7 +53,7 @@ pub fn answer<V: CalendarView>(
     arena: &Arena,
     found: Option<u32>,
 ) -> Result<Found, Memory>
-    requires ready { IsReady task.now.grid.now task.now.request task.now.horizon task.now.distances.now (V.size view.now) }
+    requires ready { IsReady task.now.grid.now task.now.request task.now.horizon (V.size view.now) }
     requires sound { IsSound task.now.grid.now task.now.request task.now.horizon (V.known view.now) (V.size view.now) arena.now }
     requires in_time { unwrap_or found task.now.horizon ≤ task.now.horizon }
     requires over { (a : Assignment) → Agrees a (V.known view.now) → IsOver task.now.grid.now task.now.request task.now.horizon a arena.now.states.items (unwrap_or found task.now.horizon) }
@@ -77,7 +77,7 @@ pub fn walk_found<V: CalendarView>(
     arena: &Arena,
     found: Option<u32>,
 ) -> Result<Option<Walk>, Memory>
-    requires ready { IsReady task.now.grid.now task.now.request task.now.horizon task.now.distances.now (V.size view.now) }
+    requires ready { IsReady task.now.grid.now task.now.request task.now.horizon (V.size view.now) }
     requires sound { IsSound task.now.grid.now task.now.request task.now.horizon (V.known view.now) (V.size view.now) arena.now }
     requires in_time { unwrap_or found task.now.horizon ≤ task.now.horizon }
     requires over { (a : Assignment) → Agrees a (V.known view.now) → IsOver task.now.grid.now task.now.request task.now.horizon a arena.now.states.items (unwrap_or found task.now.horizon) }

@@ -1,4 +1,4 @@
-ghost use Rattle.std.specs.Prelude.{◌≡◌, ◌≢◌, ℕ, suc, ◌+◌, ◌<◌, ◌≤◌, ◌⊎◌, ◌^◌, true, false, [], List, Option, Some, None, IsSome, OnOk, IfOk, IfSome, IfNone, length, slice_get, unwrap_or};
+ghost use Rattle.std.specs.Prelude.{◌≡◌, ◌≢◌, ℕ, suc, ◌+◌, ◌<◌, ◌≤◌, ◌⊎◌, ◌^◌, true, false, List, Option, Some, None, IsSome, OnOk, IfOk, IfSome, IfNone, length, slice_get, unwrap_or};
 ghost use Rattle.std.specs.Bool.{OnTrue, OnFalse};
 ghost use Rattle.fleet_base.specs.declared.request.Record.{Record};
 ghost use Rattle.calendars.specs.Assignments.{Assignment, Agrees};
@@ -8,9 +8,9 @@ ghost use Rattle.sipp_search.specs.declared.states.Spot.{Spot as ASpot};
 ghost use Rattle.sipp_search.specs.Marks.{keys_of, final, final_count};
 ghost use Rattle.sipp_search.specs.Answer.{AreListsOf, interval_count};
 ghost use Rattle.sipp_search.specs.Progress.{IsUnderWay};
-ghost use Rattle.sipp_search.specs.Running.{IsReady, IsSound, KeepsKnown, SettlesNext, AreAbove, IsOver, Ends, MayEndIn, NeverEndsIn, LoadsFor, LoadsInAll};
+ghost use Rattle.sipp_search.specs.Running.{IsReady, IsSound, Serves, KeepsKnown, SettlesNext, AreAbove, IsOver, Ends, MayEndIn, NeverEndsIn, LoadsFor, LoadsInAll};
 
-use crate::begin::begin;
+use crate::begin::{begin, prepare};
 use crate::expand::expand;
 use crate::states::{Arena, Mark, Spot, State, Taken};
 use crate::steps::Steps;
@@ -99,7 +99,7 @@ fn run<V: CalendarView, L: Ledger>(
     arena: &mut Arena,
     steps: &mut Steps<L>,
 ) -> Result<Option<u32>, Memory>
-    requires ready { IsReady task.now.grid.now task.now.request task.now.horizon task.now.distances.now (V.size view.old) }
+    requires ready { IsReady task.now.grid.now task.now.request task.now.horizon (V.size view.old) }
     requires sound { IsSound task.now.grid.now task.now.request task.now.horizon (V.known view.old) (V.size view.old) arena.old }
     requires floor { arena.old.queue.floor ≤ task.now.horizon }
     requires none_final { (i r : ℕ) (p : ASpot) → slice_get arena.old.states.items i ≢ Some (final p r) }
@@ -111,6 +111,7 @@ fn run<V: CalendarView, L: Ledger>(
     ensures takes { (lists : ℕ → List Interval) → AreListsOf (V.known view.new) task.now.horizon lists → steps.new ≤ steps.old + interval_count (V.known view.new) lists (V.size view.new) }
     ensures rises { steps.old ≤ steps.new }
     ensures counted { OnOk result (steps.new ≡ steps.old + final_count arena.new.states.items) }
+    ensures serves { Serves task.now.horizon (length task.now.grid.now.cells) arena.new }
     ensures sound { OnOk result (IsSound task.now.grid.now task.now.request task.now.horizon (V.known view.new) (V.size view.new) arena.new) }
     ensures loads { OnOk result (LoadsFor task.now.grid.now (V.known view.old) (V.known view.new) arena.new.states.items) }
     ensures in_time { IfOk result (λ found. unwrap_or found task.now.horizon ≤ task.now.horizon) }
@@ -127,25 +128,24 @@ fn run<V: CalendarView, L: Ledger>(
     Ok(found)
 }
 
-// Begins in an arena in which nothing is touched, and runs.
+// A whole search. It begins with nothing touched, whatever is in the arena.
 pub fn settle<V: CalendarView, L: Ledger>(
     task: &Task,
     view: &mut V,
     arena: &mut Arena,
     steps: &mut Steps<L>,
 ) -> Result<Option<u32>, Memory>
-    requires ready { IsReady task.now.grid.now task.now.request task.now.horizon task.now.distances.now (V.size view.old) }
-    requires sound { IsSound task.now.grid.now task.now.request task.now.horizon (V.known view.old) (V.size view.old) arena.old }
+    requires ready { IsReady task.now.grid.now task.now.request task.now.horizon (V.size view.old) }
+    requires serves { Serves task.now.horizon (length task.now.grid.now.cells) arena.old }
     requires start { task.now.request.start.0 < V.size view.old }
     requires goal { task.now.request.goal.0 < V.size view.old }
-    requires none { arena.old.states.items ≡ [] }
-    requires floor { arena.old.queue.floor ≡ 0 }
     ensures cells { V.size view.new ≡ V.size view.old }
     ensures went { V.went view.old view.new }
     ensures kept { KeepsKnown (V.known view.old) (V.known view.new) }
     ensures takes { (lists : ℕ → List Interval) → AreListsOf (V.known view.new) task.now.horizon lists → steps.new ≤ steps.old + interval_count (V.known view.new) lists (V.size view.new) }
     ensures rises { steps.old ≤ steps.new }
     ensures counted { OnOk result (steps.new ≡ steps.old + final_count arena.new.states.items) }
+    ensures serves { Serves task.now.horizon (length task.now.grid.now.cells) arena.new }
     ensures sound { OnOk result (IsSound task.now.grid.now task.now.request task.now.horizon (V.known view.new) (V.size view.new) arena.new) }
     ensures loads { OnOk result (LoadsInAll task.now.grid.now task.now.request (V.known view.old) (V.known view.new) arena.new.states.items) }
     ensures in_time { IfOk result (λ found. unwrap_or found task.now.horizon ≤ task.now.horizon) }
@@ -153,6 +153,7 @@ pub fn settle<V: CalendarView, L: Ledger>(
         → IsOver task.now.grid.now task.now.request task.now.horizon a arena.new.states.items (unwrap_or found task.now.horizon)) }
     ensures ends { IfOk result (λ found. (a : Assignment) → Agrees a (V.known view.new) → Ends task.now.request a arena.new.states.items found) }
 {
+    prepare(task, arena)?;
     begin(task, view, arena)?;
     let found = run(task, view, arena, steps)?;
     Ok(found)

@@ -1,48 +1,61 @@
-ghost use Rattle.std.specs.Prelude.{◌≡◌, ◌<◌, Some, length, slice_get, IfOk};
+ghost use Rattle.std.specs.Prelude.{◌≡◌, ◌<◌, length, IfOk, OnOk};
 
 use crate::flood::{Flood, UNREACHED};
 use fleet_base::{Cell, Grid, Memory};
 use std::alloc::Global;
-use std::marker::Model;
 
-/// The least number of moves from each cell of a grid to a goal, over open cells.
-/// They are seen as a list by the numbers of the cells, with none where no way leads to the goal.
+/// The least number of moves over open cells from each cell of a grid to a goal.
 #[derive(Drop)]
 pub struct Distances {
+    alloc: Global,
+    goal: Cell,
     steps: Vec<u32>,
 }
 
-impl Model for Distances {
-    ghost use Rattle.std.specs.Prelude.{List, Option, ℕ, map};
-
-    ghost Value = { List (Option ℕ) };
-
-    ghost use Rattle.static_distance.specs.Flooding.{distance_from};
-
-    ghost view = { λ d. map distance_from d.steps.items };
-}
-
 impl Distances {
-    ghost use Rattle.static_distance.specs.Distance.{AreDistances};
+    ghost use Rattle.static_distance.specs.Aim.{room, IsAimed, AnswersDistance};
 
-    /// The distances to a goal. Where the goal is closed, no cell has one.
-    pub fn new(alloc: Global, grid: &Grid, goal: Cell) -> Result<Distances, Memory>
-        requires { goal.0 < length grid.now.cells }
-        ensures { IfOk result (AreDistances grid.now goal) }
+    /// For grids of that many cells. Nothing is counted before it is aimed at a goal.
+    pub fn new(alloc: Global, cells: usize) -> Result<Distances, Memory>
+        ensures { IfOk result (λ d. room d ≡ cells) }
     {
-        let mut flood = Flood::begin(alloc, grid, goal)?;
+        Ok(Distances {
+            alloc,
+            goal: Cell(0),
+            steps: vec![in alloc; UNREACHED; cells]?,
+        })
+    }
+
+    /// From now on moves to that goal are counted. It costs least where the cells that are asked for lie toward the other cell.
+    pub fn aim(&mut self, grid: &Grid, goal: Cell, toward: Cell) -> Result<(), Memory>
+        requires room { room self.old ≡ length grid.now.cells }
+        requires goal { goal.0 < length grid.now.cells }
+        requires toward { toward.0 < length grid.now.cells }
+        ensures aimed { OnOk result (IsAimed grid.now self.new) }
+        ensures goal { OnOk result (self.new.goal ≡ goal) }
+        ensures room { room self.new ≡ room self.old }
+    {
+        let _toward = toward;
+        let mut flood = Flood::begin(self.alloc, grid, goal)?;
         while !flood.is_over() {
             flood.expand(grid)?;
         }
-        Ok(Distances { steps: flood.steps })
+        self.goal = goal;
+        self.steps = flood.steps;
+        Ok(())
     }
 
     /// The distance from a cell to the goal, or none where no way leads there.
-    pub fn to_goal(&self, cell: Cell) -> Option<u32>
-        requires { cell.0 < length self.now }
-        ensures { slice_get self.now cell.0 ≡ Some result }
+    pub fn to_goal(&mut self, grid: &Grid, cell: Cell) -> Result<Option<u32>, Memory>
+        requires aimed { IsAimed grid.now self.old }
+        requires cell { cell.0 < length grid.now.cells }
+        ensures distance { IfOk result (AnswersDistance grid.now self.old.goal cell) }
+        ensures aimed { OnOk result (IsAimed grid.now self.new) }
+        ensures goal { self.new.goal ≡ self.old.goal }
+        ensures room { room self.new ≡ room self.old }
     {
+        let _grid = grid;
         let steps = self.steps[cell.0 as usize];
-        (steps < UNREACHED).then_some(steps)
+        Ok((steps < UNREACHED).then_some(steps))
     }
 }

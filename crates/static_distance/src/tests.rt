@@ -59,11 +59,14 @@ fn counts_moves_over_open_cells(rt: HostRuntime) {
         ),
         (2, [none; 12]),
     ];
+    let mut distances = Distances::new(rt.alloc(), 12).expect(&rt, "memory");
     for (goal, wanted) in table {
-        let distances = Distances::new(rt.alloc(), &grid, Cell(goal)).expect(&rt, "memory");
+        distances
+            .aim(&grid, Cell(goal), Cell(0))
+            .expect(&rt, "memory");
         for cell in 0..12 {
             assert_eq!(rt;
-                distances.to_goal(Cell(cell)),
+                distances.to_goal(&grid, Cell(cell)).expect(&rt, "memory"),
                 wanted[cell as usize],
                 "{cell} to {goal}"
             );

@@ -1,11 +1,16 @@
 use Rattle.std.proofs.Common.{subst, sym, ◌∙◌, ℕ}
 use Rattle.sipp_search.specs.Progress.{IsUnderWay}
+use Rattle.sipp_search.specs.Running.{IsSound}
 use Rattle.sipp_search.proofs.Answering.{loads_all}
 use Rattle.sipp_search.proofs.run.settle.Goals as goal
 
+pub begin-requires-clause-sound : goal.begin-requires-clause-sound
+begin-requires-clause-sound g c =
+    let known = g.V.CalendarView.known c.args.view.now in
+    subst (λ (n : ℕ). IsSound c.args.task.now.grid.now c.args.task.now.request c.args.task.now.horizon known n c.prepare.new.arena) (sym c.requires.ready.size_is) (c.in_ok-prepare.ensures.sound known)
+
 pub run-requires-clause-ready : goal.run-requires-clause-ready
 run-requires-clause-ready g c = record {
-  distances_right = c.requires.ready.distances_right;
   bound = c.requires.ready.bound;
   size_is = c.in_ok-begin.ensures.cells ∙ c.requires.ready.size_is;
   in_range = c.requires.ready.in_range;

@@ -1,6 +1,6 @@
 use Rattle.std.proofs.Common.{◌≡◌, ◌-◌, length}
 use Rattle.static_distance.specs.Flooding.{IsFlood}
-use Rattle.static_distance.proofs.distances.Distances.new.Given as goal
+use Rattle.static_distance.proofs.distances.Distances.aim.Given as goal
 
 abbrev pub invariant-loop-flood : goal.invariant-loop-flood
 invariant-loop-flood l = record {
