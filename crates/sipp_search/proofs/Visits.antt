@@ -93,7 +93,7 @@ module _ (g : Terrain) (q : Request) (horizon : ℕ) (a : Assignment) (old now :
       let holds = block_holds g q.goal horizon known (spots_of old) to first (t + 1) block (omega arith) free in
       let spot : Spot = record { cell = to; interval = holds.1; left = block.left } in
       let at : slice_get (spots_of old) (first + holds.0) ≡ Some spot = block.each holds.0 holds.1 holds.2 in
-      let left : block.left ≡ near.left = bound.once to block.left near.left block.distance near.distance in
+      let left : block.left ≤ near.left = block.distance.least near.left near.way in
       entered (first + holds.0) spot (omega arith) (before holds.0 holds.1 holds.2) at t
       (record { not_before = since; until = until; lands = holds.3; unbarred = move.unbarred }) (omega (arith, near.below))
     where

@@ -2,7 +2,7 @@ ghost use Rattle.std.specs.Prelude.{◌≡◌, ◌≢◌, ℕ, suc, ◌+◌, ◌
 ghost use Rattle.fleet_base.specs.Terrain.{Terrain, IsBeside};
 ghost use Rattle.fleet_base.specs.declared.grid.Cell.{Cell as ACell};
 ghost use Rattle.fleet_base.specs.Canonical.{rank_of};
-ghost use Rattle.sipp_search.specs.Running.{IsReady, IsSound, IsTaken, KeepsKnown, KeepsSpots, LoadsBeside, LoadsAround};
+ghost use Rattle.sipp_search.specs.Running.{IsReady, IsSound, Serves, IsTaken, KeepsKnown, KeepsSpots, LoadsBeside, LoadsAround};
 ghost use Rattle.fleet_base.specs.declared.request.Request.{Request};
 ghost use Rattle.calendars.specs.Records.{covers};
 ghost use Rattle.calendars.specs.Assignments.{Assignment, Agrees};
@@ -79,6 +79,7 @@ pub fn offer(
     requires high { key ≤ queue.old.bound }
     ensures states { OnOk result ((s : State) → slice_get states.old.items id ≡ Some s → states.new.items ≡ slice_set states.old.items id (offered s arrival)) }
     ensures queue { OnOk result (queue.new ≡ record queue.old { keys = keys_of states.new.items }) }
+    ensures bound { queue.new.bound ≡ queue.old.bound }
 {
     if is_better(states[id].mark, arrival) {
         queue.put(id, key)?;
@@ -107,6 +108,7 @@ fn visit(
     requires free { (t : ℕ) → IsIn t from.interval → covers here.now t ≡ false }
     requires low { (s : State) → slice_get states.old.items j ≡ Some s → queue.old.floor ≤ arrival + 1 + s.spot.left }
     ensures queue { OnOk result (queue.new ≡ record queue.old { keys = keys_of states.new.items }) }
+    ensures bound { queue.new.bound ≡ queue.old.bound }
     ensures spots { OnOk result (spots_of states.new.items ≡ spots_of states.old.items) }
     ensures improves { OnOk result (Improves states.old.items states.new.items) }
     ensures visited { OnOk result ((g : Terrain) (q : Request) (a : Assignment) (x : ℕ) (s : State) → slice_get states.old.items j ≡ Some s
@@ -149,6 +151,7 @@ fn reach_into<V: CalendarView>(
     requires free { (records : List Record) (t : ℕ) → V.known view.now from.cell.0 ≡ Some records → IsIn t from.interval → covers records t ≡ false }
     requires low { (i : ℕ) (p : Spot) → slice_get (spots_of states.old.items) i ≡ Some p → p.cell ≡ to → queue.old.floor ≤ arrival + 1 + p.left }
     ensures queue { OnOk result (queue.new ≡ record queue.old { keys = keys_of states.new.items }) }
+    ensures bound { queue.new.bound ≡ queue.old.bound }
     ensures spots { OnOk result (spots_of states.new.items ≡ spots_of states.old.items) }
     ensures improves { OnOk result (Improves states.old.items states.new.items) }
     ensures led { OnOk result ((g : Terrain) (q : Request) (a : Assignment) (x : ℕ) → Agrees a (V.known view.now) → IsSource g q horizon a from arrival to
@@ -176,7 +179,7 @@ fn move_to<V: CalendarView>(
     arrival: u32,
     side: Side,
 ) -> Result<(), Memory>
-    requires ready { IsReady task.now.grid.now task.now.request task.now.horizon task.now.distances.now (V.size view.old) }
+    requires ready { IsReady task.now.grid.now task.now.request task.now.horizon (V.size view.old) }
     requires sound { IsSound task.now.grid.now task.now.request task.now.horizon (V.known view.old) (V.size view.old) arena.old }
     requires placed { (i : ℕ) × (slice_get (spots_of arena.old.states.items) i ≡ Some from) }
     requires arrived { IsIn arrival from.interval }
@@ -185,6 +188,7 @@ fn move_to<V: CalendarView>(
     ensures went { V.went view.old view.new }
     ensures kept { KeepsKnown (V.known view.old) (V.known view.new) }
     ensures loads { LoadsBeside task.now.grid.now side from.cell (V.known view.old) (V.known view.new) }
+    ensures serves { Serves task.now.horizon (length task.now.grid.now.cells) arena.new }
     ensures sound { OnOk result (IsSound task.now.grid.now task.now.request task.now.horizon (V.known view.new) (V.size view.new) arena.new) }
     ensures floor { OnOk result (arena.new.queue.floor ≡ arena.old.queue.floor) }
     ensures spots { OnOk result (KeepsSpots arena.old.states.items arena.new.states.items) }
@@ -232,13 +236,14 @@ pub fn expand<V: CalendarView>(
     arena: &mut Arena,
     taken: Taken,
 ) -> Result<(), Memory>
-    requires ready { IsReady task.now.grid.now task.now.request task.now.horizon task.now.distances.now (V.size view.old) }
+    requires ready { IsReady task.now.grid.now task.now.request task.now.horizon (V.size view.old) }
     requires sound { IsSound task.now.grid.now task.now.request task.now.horizon (V.known view.old) (V.size view.old) arena.old }
     requires taken { IsTaken arena.old taken }
     ensures cells { V.size view.new ≡ V.size view.old }
     ensures went { V.went view.old view.new }
     ensures kept { KeepsKnown (V.known view.old) (V.known view.new) }
     ensures loads { LoadsAround task.now.grid.now taken.spot.cell (V.known view.old) (V.known view.new) }
+    ensures serves { Serves task.now.horizon (length task.now.grid.now.cells) arena.new }
     ensures sound { OnOk result (IsSound task.now.grid.now task.now.request task.now.horizon (V.known view.new) (V.size view.new) arena.new) }
     ensures floor { OnOk result (arena.new.queue.floor ≡ arena.old.queue.floor) }
     ensures spots { OnOk result (KeepsSpots arena.old.states.items arena.new.states.items) }
