@@ -28,6 +28,7 @@ impl Buckets {
     }
 
     // Gives an id that key, whether it has one or not.
+    #[inline(always)]
     pub(crate) fn put(&mut self, id: usize, key: u32) -> Result<(), AllocError>
         requires paired { IsPaired self.old }
         requires known { id < length self.old.spots.items }

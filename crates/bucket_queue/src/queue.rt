@@ -68,6 +68,7 @@ impl BucketQueue {
     }
 
     /// Queues an id with that key, or moves it there from the key that it has.
+    #[inline(always)]
     pub fn put(&mut self, id: usize, key: u32) -> Result<(), AllocError>
         requires known { id < length self.old.keys }
         requires low { self.old.floor ≤ key }

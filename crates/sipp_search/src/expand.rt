@@ -44,8 +44,12 @@ fn entry_time(
     if entry > to.to.min(from.to + 1) {
         return None;
     }
-    // Where the earliest move is an exchange, no later one is free.
     let _in_order = here.records();
+    // Who takes part in an exchange leaves at the end of the interval.
+    if entry <= from.to {
+        return Some(entry);
+    }
+    // Where the earliest move is an exchange, no later one is free.
     if crossing(here, there, entry - 1) {
         return None;
     }
@@ -65,6 +69,7 @@ fn is_better(mark: Mark, arrival: u32) -> bool
 }
 
 // Queues a state at an arrival, or moves it there where it was queued at a later one.
+#[inline(always)]
 pub fn offer(
     states: &mut Vec<State>,
     queue: &mut BucketQueue,
@@ -116,7 +121,11 @@ fn visit(
         → AreSpots g q horizon a (spots_of states.old.items) → IsUnderWay g q horizon a states.old.items queue.old.floor x
         → IsUnderWay g q horizon a states.new.items queue.old.floor x × HasEntered here.now there.now horizon states.new.items from arrival s.spot) }
 {
-    let to = states[j].spot;
+    let state = states[j];
+    if let Mark::Final(_) = state.mark {
+        return Ok(());
+    }
+    let to = state.spot;
     let Some(entry) = entry_time(here, there, from.interval, to.interval, arrival) else {
         return Ok(());
     };

@@ -101,6 +101,7 @@ fn touch<V: CalendarView>(
 }
 
 // Touches a cell from which a way leads to the goal, and gives the place of its first state.
+#[inline(always)]
 pub fn block_of<V: CalendarView>(
     task: &Task,
     view: &mut V,

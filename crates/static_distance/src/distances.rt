@@ -155,6 +155,7 @@ impl Distances {
     }
 
     // The cell on that side of a cell that was just counted waits, where it is open and isn't counted.
+    #[inline(always)]
     fn enter(&mut self, grid: &Grid, cell: Cell, place: Place, side: Side) -> Result<(), Memory>
         requires cell { cell.0 < length grid.now.cells }
         requires place { IsPlaceOf grid.now cell place }
