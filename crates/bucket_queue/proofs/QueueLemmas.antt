@@ -1,14 +1,14 @@
 -- A queue's invariant after each call.
 use Rattle.std.proofs.Common.{◌≡◌, ℕ, ◌-◌, ◌<◌, ◌≤◌, ◌⊎◌, inl, inr, List, [], ◌∷◌, ◌++◌, Option, Some, None, length, set, refl, sym, ap, ◌∙◌, arith, length-append}
-use Rattle.std.proofs.lemmas.Bool.{cases_lt}
+use Rattle.std.proofs.lemmas.Bool.{cases_lt, cases_eq}
 use Rattle.std.proofs.lemmas.Option.{slice_get_within, same_Some, none-some}
 use Rattle.std.specs.Prelude.{slice_get, Vec, IfSome}
 use Rattle.std.specs.Global.{Global}
 use Rattle.bucket_queue.specs.declared.buckets.Buckets.{Buckets}
 use Rattle.bucket_queue.specs.declared.buckets.Spot.{Spot}
 use Rattle.bucket_queue.specs.Queue.{Queue, HasKey, TakesLeast}
-use Rattle.bucket_queue.specs.Pairing.{IsPaired, IsEmptyAt, IsFirstFilled, IsQueue, keys_of}
-use Rattle.bucket_queue.proofs.Lists.{slice_get-append_left, slice_get-append_at, set_cases}
+use Rattle.bucket_queue.specs.Pairing.{IsPaired, IsEmptyAt, IsFirstFilled, IsQueue, AreBelow, keys_of}
+use Rattle.bucket_queue.proofs.Lists.{slice_get-append_left, slice_get-append_at, slice_get-set_at, slice_get-set_other, set_cases}
 use Rattle.bucket_queue.proofs.PairingLemmas.{empty_at, spot_from_key, stands_from_key, key_from_spot}
 
 -- one bucket more, without ids
@@ -126,3 +126,49 @@ in_range b floor id (Some key) is has =
     let there = stands_from_key b.by_key.items b.spots.items id key is.paired has in
     let lt : key < length b.by_key.items = slice_get_within b.by_key.items key there.1.bucket there.1.at_key in
     (is.low id key has, omega arith)
+
+-- Keys below a number.
+pub none_below : (b : Buckets) → b.spots.items ≡ [] → AreBelow b 0
+none_below b none = record { bounded = omega arith; below = λ id key has. absurd (no_key id key (rw none at has)) }
+  where
+    no_key : (id key : ℕ) → HasKey [] id key → ⊥
+    no_key id key has = cc
+
+pub below_after : (b next : Buckets) (end : ℕ) → AreBelow b end → length next.by_key.items ≡ length b.by_key.items
+    → ((id key : ℕ) → HasKey (keys_of next) id key → HasKey (keys_of b) id key) → AreBelow next end
+below_after b next end are count fewer = record { bounded = omega (arith, are.bounded); below = λ id key has. are.below id key (fewer id key has) }
+
+pub had_before_more : (keys : List (Option ℕ)) (id key : ℕ) → HasKey (keys ++ None ∷ []) id key → HasKey keys id key
+had_before_more keys id key has = elim (cases_lt id (length keys)) [
+  | inl before ↦ sym (slice_get-append_left keys (None ∷ []) id before) ∙ has
+  | inr after ↦
+      let lt : id < length (keys ++ None ∷ []) = slice_get_within _ _ _ has in
+      let same : id ≡ length keys = omega (arith, length-append keys (None ∷ [])) in
+      let there : slice_get (keys ++ None ∷ []) id ≡ Some None = rw same (slice_get-append_at keys None) in
+      absurd (none-some key (same_Some None (Some key) (sym there ∙ has)))
+]
+
+pub had_before_taken : (keys : List (Option ℕ)) (id taken key : ℕ) → HasKey keys taken key → (k : ℕ) → HasKey (set keys taken None) id k → HasKey keys id k
+had_before_taken keys id taken key had k has = elim (set_cases keys taken id None (Some k) (slice_get_within _ _ _ had) has) [
+  | inl new ↦ absurd (none-some k (sym new.1))
+  | inr old ↦ old.1
+]
+
+-- Buckets that are emptied one after the other.
+pub emptied : (bs : List (Vec ℕ Global)) (x k : ℕ) (b : Vec ℕ Global) → x < length bs → b.items ≡ [] → IsEmptyAt bs k ⊎ (k ≡ x) → IsEmptyAt (set bs x b) k
+emptied bs x k b within none before = elim (cases_eq k x) [
+  | inl e ↦ (let at : slice_get (set bs x b) k ≡ Some b = rw e (slice_get-set_at bs x b within) in empty_at (set bs x b) k b at (ap (λ (xs : List ℕ). length xs) none))
+  | inr ne ↦ (elim before [
+    | inl empty ↦ (λ place id stands. empty place id (record { bucket = stands.bucket; at_key = sym (slice_get-set_other bs x k b ne) ∙ stands.at_key; at_place = stands.at_place }))
+    | inr e ↦ absurd (ne e)
+  ])
+]
+
+pub low_empty : (b : Buckets) (floor : ℕ) → IsQueue b floor → (k : ℕ) → k < floor → IsEmptyAt b.by_key.items k
+low_empty b floor is k low place id stands = absurd (let le : floor ≤ k = is.low id k (key_from_spot b.spots.items id _ (is.paired.back k place id stands)) in omega arith)
+
+pub high_empty : (b : Buckets) (floor end : ℕ) → IsQueue b floor → AreBelow b end → (k : ℕ) → end ≤ k → IsEmptyAt b.by_key.items k
+high_empty b floor end is are k high place id stands = absurd (let lt : k < end = are.below id k (key_from_spot b.spots.items id _ (is.paired.back k place id stands)) in omega arith)
+
+pub cleared : (b next : Buckets) (floor : ℕ) → IsQueue b floor → ((k : ℕ) → IsEmptyAt next.by_key.items k) → length next.by_key.items ≡ length b.by_key.items → next.spots.items ≡ [] → IsQueue next 0 × AreBelow next 0
+cleared b next floor is empty count none = (new_queue next none empty (omega (arith, is.within)), none_below next none)

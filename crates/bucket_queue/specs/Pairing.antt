@@ -58,3 +58,8 @@ pub record IsQueue (b : Buckets) (floor : ℕ) : Type 0 where
   pub paired : IsPaired b
   pub low : (id key : ℕ) → HasKey (keys_of b) id key → floor ≤ key
   pub within : floor < length b.by_key.items
+
+-- each key is below that number, which is at most the number of the buckets
+pub record AreBelow (b : Buckets) (end : ℕ) : Type 0 where
+  pub bounded : end ≤ length b.by_key.items
+  pub below : (id key : ℕ) → HasKey (keys_of b) id key → key < end

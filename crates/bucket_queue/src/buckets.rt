@@ -1,4 +1,4 @@
-ghost use Rattle.std.specs.Prelude.{◌≡◌, ◌≢◌, ℕ, ◌<◌, ◌≤◌, Some, None, IfSome, IfNone, OnOk, OnErr, length, slice_get, slice_set};
+ghost use Rattle.std.specs.Prelude.{◌≡◌, ◌≢◌, ℕ, ◌<◌, ◌≤◌, Some, None, [], IfSome, IfNone, OnOk, OnErr, length, slice_get, slice_set};
 
 use std::alloc::AllocError;
 
@@ -28,6 +28,7 @@ impl Buckets {
     }
 
     // Gives an id that key, whether it has one or not.
+    #[inline(always)]
     pub(crate) fn put(&mut self, id: usize, key: u32) -> Result<(), AllocError>
         requires paired { IsPaired self.old }
         requires known { id < length self.old.spots.items }
@@ -112,5 +113,19 @@ impl Buckets {
             }
         }
         None
+    }
+    // Forgets all ids, where no bucket before `from` or from `end` on is filled.
+    pub(crate) fn clear(&mut self, from: usize, end: usize)
+        requires within { end ≤ length self.old.by_key.items }
+        requires low { (k : ℕ) → k < from → IsEmptyAt self.old.by_key.items k }
+        requires high { (k : ℕ) → end ≤ k → IsEmptyAt self.old.by_key.items k }
+        ensures empty { (k : ℕ) → IsEmptyAt self.new.by_key.items k }
+        ensures count { length self.new.by_key.items ≡ length self.old.by_key.items }
+        ensures none { self.new.spots.items ≡ [] }
+    {
+        for key in from..end {
+            self.by_key[key].clear();
+        }
+        self.spots.clear();
     }
 }

@@ -10,6 +10,8 @@ pub struct BucketQueue {
     buckets: Buckets,
     // The least key that an id may have.
     floor: usize,
+    // Above each key that was used since the ids were last cleared.
+    end: usize,
 }
 
 impl Model for BucketQueue {
@@ -18,11 +20,11 @@ impl Model for BucketQueue {
 
     ghost Value = { Queue };
 
-    ghost use Rattle.bucket_queue.specs.Pairing.{IsQueue, keys_of};
+    ghost use Rattle.bucket_queue.specs.Pairing.{IsQueue, AreBelow, keys_of};
 
     ghost view = { λ q. record { keys = keys_of q.buckets; floor = q.floor; bound = length q.buckets.by_key.items - 1 } };
 
-    ghost invariant = { λ q. IsQueue q.buckets q.floor };
+    ghost invariant = { λ q. IsQueue q.buckets q.floor × AreBelow q.buckets q.end };
 }
 
 impl BucketQueue {
@@ -43,6 +45,7 @@ impl BucketQueue {
                 spots: Vec::new(alloc),
             },
             floor: 0,
+            end: 0,
         })
     }
 
@@ -65,6 +68,7 @@ impl BucketQueue {
     }
 
     /// Queues an id with that key, or moves it there from the key that it has.
+    #[inline(always)]
     pub fn put(&mut self, id: usize, key: u32) -> Result<(), AllocError>
         requires known { id < length self.old.keys }
         requires low { self.old.floor ≤ key }
@@ -72,7 +76,9 @@ impl BucketQueue {
         ensures ok { OnOk result (self.new ≡ record self.old { keys = slice_set self.old.keys id (Some key) }) }
         ensures err { OnErr result (self.new ≡ self.old) }
     {
-        self.buckets.put(id, key)
+        self.buckets.put(id, key)?;
+        self.end = self.end.max(key as usize + 1);
+        Ok(())
     }
 
     /// Takes an id of the least key, or none where that key is above the limit. Of several it takes any one.
@@ -86,5 +92,14 @@ impl BucketQueue {
         let id = self.buckets.pop(key);
         self.floor = key;
         Some(id)
+    }
+    /// No ids any more, and the floor is 0 again. It passes the buckets from the floor to the greatest key that was used
+    /// since the last clearing, keeps their room, and allocates nothing.
+    pub fn clear(&mut self)
+        ensures { self.new ≡ record self.old { keys = []; floor = 0 } }
+    {
+        self.buckets.clear(self.floor, self.end);
+        self.floor = 0;
+        self.end = 0;
     }
 }

@@ -1,8 +1,12 @@
+ghost use Rattle.std.specs.Prelude.{◌≡◌, IfOk};
+
 use super::*;
 use std::alloc::{AllocError, Global};
 
 // Three ids, of which the first is moved from the greatest key to a lesser one.
-fn three_ids(alloc: Global) -> Result<BucketQueue, AllocError> {
+fn three_ids(alloc: Global) -> Result<BucketQueue, AllocError>
+    ensures { IfOk result (λ q. q.bound ≡ 9) }
+{
     let mut queue = BucketQueue::new(alloc, 9)?;
     queue.add()?;
     queue.add()?;
@@ -28,4 +32,15 @@ fn takes_in_rising_order(rt: HostRuntime) {
     for (limit, wanted) in table {
         assert_eq!(rt; queue.take(limit), wanted, "up to {limit}");
     }
+}
+
+#[test]
+fn no_ids_after_clearing(rt: HostRuntime) {
+    let mut queue = three_ids(rt.alloc()).expect(&rt, "memory");
+    assert_eq!(rt; queue.take(2), Some(1));
+    queue.clear();
+    assert_eq!(rt; queue.take(9), None);
+    queue.add().expect(&rt, "memory");
+    queue.put(0, 1).expect(&rt, "memory");
+    assert_eq!(rt; queue.take(9), Some(0));
 }

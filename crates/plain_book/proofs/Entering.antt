@@ -1,5 +1,5 @@
 -- What lets a route come into a book, and what its coming makes of an answer.
-use Rattle.std.proofs.Common.{◌≡◌, ◌≢◌, ℕ, ◌+◌, ◌≤◌, List, ◌∷◌, length, refl, sym, ap, subst, ◌∙◌, arith, max}
+use Rattle.std.proofs.Common.{◌≡◌, ◌≢◌, ℕ, ◌+◌, ◌≤◌, Option, Some, List, ◌∷◌, length, refl, sym, ap, subst, ◌∙◌, arith, max}
 use Rattle.std.specs.Prelude.{All, IsPermutation}
 use Rattle.std.proofs.lemmas.List.Elements.{All-weaker}
 use Rattle.fleet_base.specs.declared.request.Live.{Live}
@@ -9,7 +9,13 @@ use Rattle.fleet_base.specs.TimedWalk.{TimedWalk}
 use Rattle.plain_book.specs.BookState.{BookState}
 use Rattle.plain_book.specs.Replies.{IsCanonicalIn, IsCommit}
 use Rattle.plain_book.specs.Entering.{MayEnter, HasEntered}
+use Rattle.plain_book.specs.Found.{PlansWalk}
 use Rattle.plain_book.proofs.Keeping.{walk_inside}
+
+-- a walk that was found in a book is one in the same book
+pub still_canonical : (s t : BookState) (q : Request) (found : Option TimedWalk) (w : TimedWalk) → t ≡ s → found ≡ Some w → PlansWalk s q found → IsCanonicalIn t q w
+still_canonical s t q found w same is planned =
+    subst (λ (b : BookState). IsCanonicalIn b q w) (sym same) (subst (λ (f : Option TimedWalk). PlansWalk s q f) is planned)
 
 -- the walk of a plan, with the next stamp
 pub planned_may_enter : (s : BookState) (q : Request) (w copy : TimedWalk) (id : RouteId) → All (λ (r : Live). r.id.stamp ≤ s.stamp) s.routes → IsCanonicalIn s q w → copy ≡ w → id.stamp ≡ s.stamp + 1

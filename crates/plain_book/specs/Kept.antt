@@ -12,6 +12,7 @@ use Rattle.fleet_base.specs.Terrain.{Terrain}
 use Rattle.fleet_base.specs.TimedWalk.{TimedWalk}
 use Rattle.fleet_base.specs.Stays.{IsStay, AreTheStays}
 use Rattle.fleet_base.specs.Order.{IsAmong}
+use Rattle.sipp_search.specs.Scratch.{Scratch}
 
 -- the calendar of the cell of that number: outside the grid an empty one
 abbrev pub records_at : List (List Record) → ℕ → List Record
@@ -50,9 +51,10 @@ abbrev pub id_cmp : RouteId → RouteId → Ordering
 id_cmp a b = ordering_then (nat_cmp a.stamp b.stamp) (nat_cmp a.caller b.caller)
 
 -- what is true of each book
-pub record IsKept (g : Terrain) (horizon stamp : ℕ) (entries : List (RouteId × TimedWalk)) (calendars : List (List Record)) : Type 0 where
+pub record IsKept (g : Terrain) (horizon stamp : ℕ) (entries : List (RouteId × TimedWalk)) (calendars : List (List Record)) (searcher : Scratch) : Type 0 where
   pub in_range : (1 ≤ horizon) × (horizon ≤ 8000)
   pub size : length calendars ≡ length g.cells
+  pub searches : searcher ≡ record { cells = length g.cells; horizon = horizon }
   pub ordered : IsStrictlySortedBy id_cmp (keys_of entries)
   pub stamps : All (λ r. r.id.stamp ≤ stamp) (routes_of entries)
   pub calendars_are : AreCalendarsOf (routes_of entries) calendars

@@ -7,6 +7,7 @@ use crate::records::empty_calendars;
 use crate::routes::{add_route, copy_of, end_route};
 use calendars::Calendar;
 use fleet_base::{Entry, Grid, Live, Memory, Request, RouteId, Walk};
+use sipp_search::Searcher;
 use std::alloc::Global;
 use std::collections::BTreeMap;
 use std::marker::Model;
@@ -22,6 +23,7 @@ pub struct PlainBook {
     grid: Grid,
     horizon: u32,
     calendars: Vec<Calendar>,
+    searcher: Searcher,
     routes: BTreeMap<RouteId, Walk>,
     stamp: u32,
     era: u64,
@@ -35,7 +37,7 @@ impl Model for PlainBook {
 
     ghost view = { λ b. record { grid = b.grid; horizon = b.horizon; routes = routes_of b.routes.entries; stamp = b.stamp; era = b.era } };
 
-    ghost invariant = { λ b. IsKept b.grid b.horizon b.stamp b.routes.entries b.calendars.items };
+    ghost invariant = { λ b. IsKept b.grid b.horizon b.stamp b.routes.entries b.calendars.items b.searcher };
 }
 
 impl PlainBook {
@@ -65,11 +67,13 @@ impl PlainBook {
         ensures { IfOk result (λ b. b ≡ record { grid = grid; horizon = horizon; routes = []; stamp = stamp; era = era }) }
     {
         let calendars = empty_calendars(alloc, grid.cells().len())?;
+        let searcher = Searcher::new(alloc, grid.cells().len(), horizon)?;
         Ok(PlainBook {
             alloc,
             grid,
             horizon,
             calendars,
+            searcher,
             routes: BTreeMap::new(alloc),
             stamp,
             era,
@@ -127,18 +131,13 @@ impl PlainBook {
     }
 
     // The canonical walk among the live routes; none exactly where no walk of the request is free.
-    fn find_walk(&self, request: Request) -> Result<Option<Walk>, Memory>
-        requires start { request.start.0 < length self.now.grid.cells }
-        requires goal { request.goal.0 < length self.now.grid.cells }
-        ensures { IfOk result (λ found. PlansWalk self.now request found) }
+    fn find_walk(&mut self, request: Request) -> Result<Option<Walk>, Memory>
+        requires start { request.start.0 < length self.old.grid.cells }
+        requires goal { request.goal.0 < length self.old.grid.cells }
+        ensures found { IfOk result (λ found. PlansWalk self.old request found) }
+        ensures same { self.new ≡ self.old }
     {
-        find_walk(
-            self.alloc,
-            &self.calendars,
-            &self.grid,
-            request,
-            self.horizon,
-        )
+        find_walk(&mut self.searcher, &self.calendars, &self.grid, request)
     }
 
     // The reply where no walk is free.

@@ -24,9 +24,9 @@ use Rattle.sipp_search.specs.declared.states.State.{State}
 use Rattle.sipp_search.specs.declared.states.Mark.{Mark}
 use Rattle.sipp_search.specs.declared.states.Mark.TheVariants.{Unseen, Queued, Final}
 use Rattle.sipp_search.specs.Marks.{spots_of, final, one_if_final, final_count}
-use Rattle.sipp_search.specs.Answer.{IsSettled, IsDue, IsTable, IsRoute, IsNoRoute, IsAsked, IsNeeded}
+use Rattle.sipp_search.specs.Answer.{IsSettled, IsDue, IsTable, IsRoute, IsNoRoute, IsBestWalk, IsAsked, IsNeeded}
 use Rattle.sipp_search.specs.Progress.{IsBound, IsWithin, HasFinal}
-use Rattle.sipp_search.specs.Running.{IsOver, EndsAt, Ends, IsLoadedFor, LoadsFor}
+use Rattle.sipp_search.specs.Running.{IsOver, EndsAt, Ends, IsLoadedFor, LoadsFor, LoadsInAll}
 use Rattle.sipp_search.specs.Tabled.{settled_of, entry_by, entry_of, table_from}
 use Rattle.sipp_search.proofs.Lists.{stands_map}
 use Rattle.sipp_search.proofs.Moves.{IsReached, reached_open}
@@ -140,7 +140,7 @@ module _ (g : Terrain) (q : Request) (horizon : ℕ) (a : Assignment) (bound : I
       holds : (s : Settled) → IsSettled g horizon a q s → IsDue g q limit s → (k : ℕ) × (slice_get (table_from states) k ≡ Some s)
       holds s settled due =
           let reached : IsReached g q a s.cell s.arrival = steps_from_walk g q (traffic_by a) s.cell s.arrival settled.reachable in
-          let has = over.complete s.cell s.arrival due.left reached (record { left = due.left; distance = due.distance; below = omega arith }) due.in_time in
+          let has = over.complete s.cell s.arrival due.left reached (record { left = due.left; way = due.distance.way; below = omega arith }) due.in_time in
           let well = over.final_well has.place has.arrival has.spot has.stands in
           let safe : IsSafeInterval (a s.cell.0) horizon has.spot.interval =
           subst (λ (z : Cell). IsSafeInterval (a z.0) horizon has.spot.interval) has.cell_is (over.spots.safe has.place has.spot (spot_at has.place has.arrival has.spot has.stands)) in
@@ -159,7 +159,7 @@ module _ (g : Terrain) (q : Request) (horizon : ℕ) (a : Assignment) (bound : I
   arrival_final : (limit s : ℕ) → IsOver g q horizon a states limit → IsArrival g (traffic_by a) q s → s ≤ limit → HasFinal states q.goal s
   arrival_final limit s over is low =
       let reached : IsReached g q a q.goal s = steps_from_walk g q (traffic_by a) q.goal s is.reachable in
-      let zero_left : IsWithin g q.goal q.goal 0 = record { left = 0; distance = bound.zero_at_goal (reached_open g q a reached); below = omega arith } in
+      let zero_left : IsWithin g q.goal q.goal 0 = record { left = 0; way = (bound.zero_at_goal (reached_open g q a reached)).way; below = omega arith } in
       over.complete q.goal s 0 reached zero_left (omega arith)
 
   pub arrival_least : (t s : ℕ) → IsOver g q horizon a states t → EndsAt q a states t → IsArrival g (traffic_by a) q s → t ≤ s
@@ -240,13 +240,21 @@ pub needed_first : (g : Terrain) (q : Request) (table : List Settled) (n : ℕ) 
 needed_first g q table n (inl e) = (q.start, inl refl, inl (sym e))
 needed_first g q table n (inr e) = (q.goal, inr (inl refl), inl (sym e))
 
-pub loads_needed : (g : Terrain) (q : Request) (states : List State) (table : List Settled) (first begun last : ℕ → Option (List Record)) → table ≡ table_from states
-    → ((n : ℕ) → IsSome (begun n) → IsSome (first n) ⊎ ((n ≡ q.start.0) ⊎ (n ≡ q.goal.0))) → LoadsFor g begun last states
-    → (n : ℕ) → IsSome (last n) → IsSome (first n) ⊎ IsNeeded g q table n
-loads_needed g q states table first begun last table_is begins loads n is = elim (loads n is) [
-  | inr for ↦ inr (needed g q states table n table_is for)
-  | inl known ↦ elim (begins n known) [
-    | inl before ↦ inl before
-    | inr asked ↦ inr (needed_first g q table n asked)
-  ]
+-- what was loaded at the beginning, and then for final states
+pub loads_all : (g : Terrain) (q : Request) (states : List State) (first begun last : ℕ → Option (List Record))
+    → ((n : ℕ) → IsSome (begun n) → IsSome (first n) ⊎ ((n ≡ q.start.0) ⊎ (n ≡ q.goal.0))) → LoadsFor g begun last states → LoadsInAll g q first last states
+loads_all g q states first begun last begins loads n is = elim (loads n is) [
+  | inr for ↦ inr (inr for)
+  | inl known ↦ elim (begins n known) [ inl before ↦ inl before | inr asked ↦ inr (inl asked) ]
 ]
+
+pub loads_needed : (g : Terrain) (q : Request) (states : List State) (table : List Settled) (first last : ℕ → Option (List Record)) → table ≡ table_from states → LoadsInAll g q first last states
+    → (n : ℕ) → IsSome (last n) → IsSome (first n) ⊎ IsNeeded g q table n
+loads_needed g q states table first last table_is loads n is = elim (loads n is) [
+  | inl before ↦ inl before
+  | inr now ↦ elim now [ inl asked ↦ inr (needed_first g q table n asked) | inr for ↦ inr (needed g q states table n table_is for) ]
+]
+
+-- the route without its table
+pub best_walk : (g : Terrain) (horizon : ℕ) (a : Assignment) (q : Request) (w : TimedWalk) (table : List Settled) → IsRoute g horizon a q w table → IsBestWalk g horizon a q w
+best_walk g horizon a q w table route = record { canonical = route.canonical; walk_of = route.walk_of; free = route.free; least = route.least }

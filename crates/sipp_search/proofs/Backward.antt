@@ -39,19 +39,19 @@ module _ (g : Terrain) (q : Request) (horizon : ℕ) (known : ℕ → Option (Li
       let there = sound.arranged.placed i p (spot_stands i r p at) in
       let block = sound.arranged.block p.cell there.0 there.1 in
       let number : p.cell.0 ≡ c.0 = ap (λ (z : Cell). z.0) same in
-      let within : p.cell.0 < length arena.firsts.items = slice_get_within arena.firsts.items p.cell.0 (suc there.0) there.1 in
+      let within : p.cell.0 < length arena.firsts = slice_get_within arena.firsts p.cell.0 (suc there.0) there.1 in
       (rw (← number) (some_of (known p.cell.0) block.records block.known_is), omega (arith, sound.count))
 
   -- an untouched cell has no state
-  pub none_untouched : (c : Cell) (t : ℕ) → slice_get arena.firsts.items c.0 ≡ Some 0 → HasFinal arena.states.items c t → ⊥
+  pub none_untouched : (c : Cell) (t : ℕ) → slice_get arena.firsts c.0 ≡ Some 0 → HasFinal arena.states.items c t → ⊥
   none_untouched c t untouched has =
       let there = sound.arranged.placed has.place has.spot (spot_stands has.place has.arrival has.spot has.stands) in
-      let here : slice_get arena.firsts.items c.0 ≡ Some (suc there.0) = subst (λ (z : Cell). slice_get arena.firsts.items z.0 ≡ Some (suc there.0)) has.cell_is there.1 in
+      let here : slice_get arena.firsts c.0 ≡ Some (suc there.0) = subst (λ (z : Cell). slice_get arena.firsts z.0 ≡ Some (suc there.0)) has.cell_is there.1 in
       let bad : 0 ≡ suc there.0 = same_Some 0 (suc there.0) (sym untouched ∙ here) in
       omega arith
 
   -- none of the block holds the time
-  pub none_in_block : (c : Cell) (t first j : ℕ) → slice_get arena.firsts.items c.0 ≡ Some (suc first) → first ≤ j
+  pub none_in_block : (c : Cell) (t first j : ℕ) → slice_get arena.firsts c.0 ≡ Some (suc first) → first ≤ j
       → ((s : State) → slice_get arena.states.items j ≡ Some s → s.spot.cell ≢ c)
       → ((i r : ℕ) (p : Spot) → first ≤ i → i < j → slice_get arena.states.items i ≡ Some (final p r) → IsIn t p.interval → r ≤ t → ⊥)
       → HasFinal arena.states.items c t → ⊥

@@ -12,8 +12,8 @@ use Rattle.calendars.specs.Records.{covers}
 use Rattle.calendars.specs.Assignments.{Assignment, Agrees, traffic_by}
 use Rattle.safe_intervals.specs.declared.interval.Interval.{Interval}
 use Rattle.safe_intervals.specs.Safe.{IsIn, IsSafeInterval}
-use Rattle.static_distance.specs.Distance.{IsDistance, AreDistances, move}
-use Rattle.static_distance.proofs.Ways.{way_open, distance_once, goal_distance, way_bounds}
+use Rattle.static_distance.specs.Distance.{IsDistance, move}
+use Rattle.static_distance.proofs.Ways.{way_open, distance_once, goal_distance}
 use Rattle.sipp_search.specs.declared.states.Spot.{Spot}
 use Rattle.sipp_search.specs.declared.states.State.{State}
 use Rattle.sipp_search.specs.declared.states.Mark.TheVariants.{Unseen, Queued, Final}
@@ -25,15 +25,13 @@ use Rattle.sipp_search.proofs.Lists.{append_cases, stands_map, map_stands}
 use Rattle.sipp_search.proofs.Marking.{AreUnseen, offered_improves, offered_well, offered_seen}
 use Rattle.sipp_search.proofs.Blocks.{block_holds, of_arena}
 
--- the distances are such as a search needs
-pub bound_from : (g : Terrain) (goal : Cell) (list : List (Option ℕ)) → AreDistances g goal list → IsBound g goal
-bound_from g goal list are = record {
+-- static distances are such as a search needs
+pub bound_of : (g : Terrain) (goal : Cell) → IsBound g goal
+bound_of g goal = record {
   opens = λ c k is. way_open g is.way;
   zero_at_goal = λ opened. goal_distance g goal opened;
   once = λ c j k one two. distance_once g goal c j k one two;
-  falls = λ side b c k opened beside is.
-      (let found = way_bounds g goal list are b (k + 1) (move side opened beside is.way) in
-      record { left = found.0; distance = are.some b found.0 found.1; below = found.2 });
+  falls = λ side b c k opened beside is. record { left = k + 1; way = move side opened beside is.way; below = omega arith };
 }
 
 pub nothing_unseen : (states : List State) → states ≡ [] → AreUnseen states
@@ -60,9 +58,9 @@ module _ (g : Terrain) (q : Request) (horizon : ℕ) (a : Assignment) where
     leads = λ i r p ne at. absurd (unseen_not_final states none i r p at);
   }
 
-  pub start_too_far : (states : List State) (left : ℕ) → IsBound g q.goal → IsDistance g q.goal q.start left → horizon < q.depart + left → StartIsSeen g q horizon a states
-  start_too_far states left bound is far k free within in_time =
-      absurd (let same : left ≡ within.left = bound.once q.start left within.left is within.distance in omega (arith, within.below))
+  pub start_too_far : (states : List State) (left : ℕ) → IsDistance g q.goal q.start left → horizon < q.depart + left → StartIsSeen g q horizon a states
+  start_too_far states left is far k free within in_time =
+      absurd (let low : left ≤ within.left = is.least within.left within.way in omega (arith, within.below))
 
   pub start_taken : (states : List State) (known : ℕ → Option (List Record)) (first : ℕ) → Agrees a known → IsBlock g q.goal horizon known (spots_of states) q.start first
       → ((i : ℕ) (p : Spot) → slice_get (spots_of states) i ≡ Some p → p.cell ≡ q.start → IsIn q.depart p.interval → ⊥) → StartIsSeen g q horizon a states

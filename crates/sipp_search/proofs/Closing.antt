@@ -46,7 +46,7 @@ module _ (g : Terrain) (q : Request) (horizon : ℕ) (a : Assignment) (bound : I
         let high : limit < seen.arrival + seen.spot.left = above seen.place seen.arrival seen.spot at in
         let mine : IsDistance g q.goal c seen.spot.left =
         subst (λ (z : Cell). IsDistance g q.goal z seen.spot.left) seen.cell_is (spots.distance seen.place seen.spot (spot_at seen.place (queued seen.spot seen.arrival) at)) in
-        let e : seen.spot.left ≡ within.left = bound.once c seen.spot.left within.left mine within.distance in
+        let e : seen.spot.left ≤ within.left = mine.least within.left within.way in
         absurd (omega (arith, seen.early, within.below))
     | inr at ↦ record {
       place = seen.place;
@@ -92,7 +92,7 @@ module _ (g : Terrain) (q : Request) (horizon : ℕ) (a : Assignment) (bound : I
         subst (λ (z : Cell). HasFinal states z (t + 1)) (sym same) (final_waits c t had (omega arith) (reached_free g q a before) free)
     | inr beside ↦
         let m : MayMove g a c d t = move_of_step g q a c d t beside.0 beside.1 opened clear in
-        let here : IsWithin g q.goal c (k + 1) = falls_back g q a bound k m (reached_open g q a before) within in
+        let here : IsWithin g q.goal c (k + 1) = falls_back g q a k m (reached_open g q a before) within in
         let had : HasFinal states c t = complete limit above in_time (k + 1) before here (omega arith) in
         let m' : MayMove g a had.spot.cell d t = subst (λ (z : Cell). MayMove g a z d t) (sym had.cell_is) m in
         let seen : HasSeen states d (t + 1) = leads had.place had.arrival had.spot had.stands t k d had.early had.holds.1 m' within (omega arith) in
@@ -111,7 +111,7 @@ module _ (g : Terrain) (q : Request) (horizon : ℕ) (a : Assignment) (bound : I
       earlier lt =
           let well : IsQueuedWell g q horizon a cursor p r = way.queued_well i r p at in
           let here : slice_get (spots_of states) i ≡ Some p = spot_at i (queued p r) at in
-          let near : IsWithin g q.goal p.cell p.left = record { left = p.left; distance = spots.distance i p here; below = omega arith } in
+          let near : IsWithin g q.goal p.cell p.left = record { left = p.left; way = (spots.distance i p here).way; below = omega arith } in
           let has : HasFinal states p.cell t =
           complete (t + p.left) (λ j s o at'. omega (arith, least j s o at')) (omega (arith, well.in_time)) p.left arrived.reached near (omega arith) in
           let there : slice_get (spots_of states) has.place ≡ Some has.spot = spot_at has.place (final has.spot has.arrival) has.stands in

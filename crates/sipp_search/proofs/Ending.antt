@@ -71,6 +71,9 @@ settled_sound g q horizon known size old new limit taken sound settles = record 
   bound = ap (λ (z : Queue). z.bound) settles.queue_is ∙ sound.bound;
   count = rw settles.firsts_are sound.count;
   arranged = rw (settled_spots old new limit taken settles, settles.firsts_are) sound.arranged;
+  aimed = rw settles.distances_are sound.aimed;
+  goal_is = rw settles.distances_are sound.goal_is;
+  room_is = rw settles.distances_are sound.room_is;
 }
 
 -- The final states of a round are those of before and one more.
@@ -171,12 +174,12 @@ interval_grows old new lists (suc n) kept = omega (arith, length_grows (old n) (
 pub states_within : (g : Terrain) (q : Request) (horizon : ℕ) (known : ℕ → Option (List Record)) (size : ℕ) (arena : Arena) (lists : ℕ → List Interval)
     → IsSound g q horizon known size arena → AreListsOf known horizon lists → final_count arena.states.items ≤ interval_count known lists size
 states_within g q horizon known size arena lists sound are =
-    let all : length (spots_of arena.states.items) ≡ touched_count lists 0 arena.firsts.items = sound.arranged.counted lists are in
-    let touched : touched_count lists 0 arena.firsts.items + interval_count known lists 0 ≤ interval_count known lists size =
-    touched_within lists known size arena.firsts.items 0 (omega (arith, sound.count)) (λ c f at. is_known c f at) in
+    let all : length (spots_of arena.states.items) ≡ touched_count lists 0 arena.firsts = sound.arranged.counted lists are in
+    let touched : touched_count lists 0 arena.firsts + interval_count known lists 0 ≤ interval_count known lists size =
+    touched_within lists known size arena.firsts 0 (omega (arith, sound.count)) (λ c f at. is_known c f at) in
     omega (arith, count_within arena.states.items, length-map arena.states.items (λ (z : State). z.spot))
   where
-    is_known : (c f : ℕ) → slice_get arena.firsts.items c ≡ Some (suc f) → IsSome (known (0 + c))
+    is_known : (c f : ℕ) → slice_get arena.firsts c ≡ Some (suc f) → IsSome (known (0 + c))
     is_known c f at =
         let block = sound.arranged.block (record { 0 = c }) f at in
         let e : 0 + c ≡ c = omega arith in

@@ -1,6 +1,6 @@
 -- Of all moves between two safe intervals the earliest decides: where it is barred, so is each later one.
 use Rattle.std.proofs.Common.{arith, sym, ◌∙◌, refl, inl, inr}
-use Rattle.std.proofs.lemmas.Bool.{cases_lt, false≢true, or_cases, and_parts, eqb-true}
+use Rattle.std.proofs.lemmas.Bool.{cases_lt, cases_Bool, false≢true, or_cases, and_parts, eqb-true}
 use Rattle.std.specs.Prelude.{Bool, ◌||◌, ◌==◌, ◌≡◌, ℕ, ◌+◌, ◌-◌, ◌≤◌, true, false, List, [], ◌∷◌, max}
 use Rattle.std.specs.List.{list_any}
 use Rattle.fleet_base.specs.declared.request.Record.{Record}
@@ -54,6 +54,15 @@ module _ (here there : List Record) (from to : Interval) (since arrival : ℕ) (
             let here' : is_exchange here there t ≡ true = rw e at barred in
             false≢true (sym can.unbarred ∙ here')
       ]
+
+  -- a move before the end of the interval is no exchange
+  pub unbarred_before_end : arrival ≤ from.to → is_exchange here there (arrival - 1) ≡ false
+  unbarred_before_end early = elim (cases_Bool (is_exchange here there (arrival - 1))) [
+    | inr unbarred ↦ unbarred
+    | inl barred ↦
+        let clear : covers here (arrival - 1 + 1) ≡ false = free (arrival - 1 + 1) (omega arith, omega arith) in
+        absurd (false≢true (sym clear ∙ exchange_covers here there (arrival - 1) order barred))
+  ]
 
   pub too_late : (arrival ≤ from.to + 1 → arrival ≤ to.to → ⊥) → (t : ℕ) → ¬ (CanEnter here there from to since t)
   too_late late t can = late (omega (arith, can.lands.0, can.until, can.not_before)) (omega (arith, can.lands, can.not_before))

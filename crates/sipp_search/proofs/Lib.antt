@@ -11,3 +11,4 @@ pub mod Ending
 pub mod Backward
 pub mod Beginning
 pub mod Answering
+pub mod Serving

@@ -9,7 +9,8 @@ use Rattle.fleet_base.specs.Terrain.{Terrain, IsOpen, IsBeside}
 use Rattle.fleet_base.specs.Reach.{Reached, begin, step, IsClearStep}
 use Rattle.calendars.specs.Records.{covers}
 use Rattle.calendars.specs.Assignments.{Assignment, traffic_by}
-use Rattle.sipp_search.specs.Progress.{MayMove, IsWithin, IsBound}
+use Rattle.static_distance.specs.Distance.{move}
+use Rattle.sipp_search.specs.Progress.{MayMove, IsWithin}
 
 pub beside_differs : (g : Terrain) (side : Side) (c d : Cell) → IsBeside g side c d → c ≢ d
 beside_differs g Up c d (x, y, at, to) same =
@@ -24,7 +25,7 @@ beside_differs g Down c d (x, y, at, to) same =
     omega (arith, at.0)
 
 pub within_more : (g : Terrain) (goal c : Cell) (k n : ℕ) → k ≤ n → IsWithin g goal c k → IsWithin g goal c n
-within_more g goal c k n le w = record { left = w.left; distance = w.distance; below = omega (arith, w.below) }
+within_more g goal c k n le w = record { left = w.left; way = w.way; below = omega (arith, w.below) }
 
 module _ (g : Terrain) (q : Request) (a : Assignment) where
   abbrev pub IsReached : Cell → ℕ → Type 0
@@ -68,6 +69,6 @@ module _ (g : Terrain) (q : Request) (a : Assignment) where
   }
 
   -- a move lowers the way that is left by 1 at most
-  pub falls_back : IsBound g q.goal → {b c : Cell} {t : ℕ} (k : ℕ) → MayMove g a b c t → IsOpen g b → IsWithin g q.goal c k → IsWithin g q.goal b (k + 1)
-  falls_back bound {b} {c} k m opened within =
-      within_more g q.goal b (within.left + 1) (k + 1) (omega (arith, within.below)) (bound.falls m.side b c within.left opened m.beside within.distance)
+  pub falls_back : {b c : Cell} {t : ℕ} (k : ℕ) → MayMove g a b c t → IsOpen g b → IsWithin g q.goal c k → IsWithin g q.goal b (k + 1)
+  falls_back {b} {c} k m opened within =
+      record { left = within.left + 1; way = move m.side opened m.beside within.way; below = omega (arith, within.below) }

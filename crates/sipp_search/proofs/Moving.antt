@@ -13,7 +13,7 @@ use Rattle.fleet_base.specs.Canonical.{rank_of}
 use Rattle.fleet_base.proofs.CanonicalLemmas.{beside_once}
 use Rattle.calendars.specs.Assignments.{Assignment, Agrees}
 use Rattle.safe_intervals.specs.Safe.{IsSafeInterval}
-use Rattle.static_distance.specs.Distance.{IsDistance}
+use Rattle.static_distance.specs.Distance.{IsWay, IsDistance}
 use Rattle.sipp_search.specs.declared.states.Spot.{Spot}
 use Rattle.sipp_search.specs.declared.states.State.{State}
 use Rattle.sipp_search.specs.Marks.{spots_of, final}
@@ -44,7 +44,7 @@ grown_way g q horizon a old new cursor x grows way =
 pub low_key : (g : Terrain) (goal : Cell) → IsBound g goal → (side : Side) (b c : Cell) (j k : ℕ) → IsBeside g side b c → IsDistance g goal b j → IsDistance g goal c k → j ≤ k + 1
 low_key g goal bound side b c j k beside here there =
     let within : IsWithin g goal b (k + 1) = bound.falls side b c k (bound.opens b j here) beside there in
-    let same : j ≡ within.left = bound.once b j within.left here within.distance in
+    let low : j ≤ within.left = here.least within.left within.way in
     omega (arith, within.below)
 
 pub source_of : (g : Terrain) (q : Request) (horizon : ℕ) (a : Assignment) (known : ℕ → Option (List Record)) (from : Spot) (r : ℕ) (side : Side) (to : Cell) (k : ℕ)
@@ -70,8 +70,8 @@ module _ (g : Terrain) (q : Request) (horizon : ℕ) (a : Assignment) (states : 
   led_nowhere none c beside = absurd (none c beside)
 
   -- from the cell the goal can't be reached
-  pub led_in_vain : (to : Cell) → IsBeside g side from.cell to → ((k : ℕ) → ¬ (IsDistance g q.goal to k)) → HasLedOn g q horizon a states from r side
-  led_in_vain to beside none = led_only to beside (λ t k since until move within in_time. absurd (none within.left within.distance))
+  pub led_in_vain : (to : Cell) → IsBeside g side from.cell to → ((k : ℕ) → ¬ (IsWay g q.goal to k)) → HasLedOn g q horizon a states from r side
+  led_in_vain to beside none = led_only to beside (λ t k since until move within in_time. absurd (none within.left within.way))
 
 side_at : ℕ → Side
 side_at zero = Up

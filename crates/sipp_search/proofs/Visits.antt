@@ -12,11 +12,12 @@ use Rattle.fleet_base.specs.Reach.{Reached}
 use Rattle.calendars.specs.Records.{covers}
 use Rattle.calendars.specs.Assignments.{Assignment, Agrees, traffic_by}
 use Rattle.safe_intervals.specs.declared.interval.Interval.{Interval}
-use Rattle.safe_intervals.specs.Safe.{IsIn, IsSafeInterval}
+use Rattle.safe_intervals.specs.Safe.{IsSafeInterval}
 use Rattle.sipp_search.specs.declared.states.Spot.{Spot}
 use Rattle.sipp_search.specs.declared.states.State.{State}
 use Rattle.sipp_search.specs.declared.states.Mark.{Mark}
-use Rattle.sipp_search.specs.Marks.{spots_of, offered}
+use Rattle.sipp_search.specs.declared.states.Mark.TheVariants.{Final}
+use Rattle.sipp_search.specs.Marks.{spots_of, final, offered}
 use Rattle.sipp_search.specs.Entry.{CanEnter, IsEntry}
 use Rattle.sipp_search.specs.Arena.{IsBlock}
 use Rattle.sipp_search.specs.Progress.{IsBound, MayMove, AreSpots, IsArrived, IsQueuedWell, AreQueuedWell, IsUnderWay, Improves}
@@ -40,29 +41,47 @@ module _ (g : Terrain) (q : Request) (horizon : ℕ) (a : Assignment) (cursor x 
       → IsVisited g q horizon a states cursor x here there from r to
   visited_late to e way entry late = (way, (λ t can in_time. absurd (omega (arith, entry.least t can, entry.time_is))))
 
-  module _ (j e : ℕ) (s : State) (at : slice_get states j ≡ Some s) (here_is : a from.cell.0 ≡ here) (there_is : a s.spot.cell.0 ≡ there)
-      (source : IsSource g q horizon a from r s.spot.cell) (spots : AreSpots g q horizon a (spots_of states)) (entry : IsEntry here there from.interval s.spot.interval r e) where
+  module _ (j : ℕ) (s : State) (at : slice_get states j ≡ Some s) (here_is : a from.cell.0 ≡ here) (there_is : a s.spot.cell.0 ≡ there)
+      (source : IsSource g q horizon a from r s.spot.cell) (spots : AreSpots g q horizon a (spots_of states)) where
     safe : IsSafeInterval (a s.spot.cell.0) horizon s.spot.interval
     safe = spots.safe j s.spot (stands_map (λ (z : State). z.spot) states j s at)
 
-    -- the spot is reached at the offered time
-    pub entry_arrives : IsArrived g q a s.spot e
-    entry_arrives =
-        let can = entry.enters in
-        let move : MayMove g a from.cell s.spot.cell entry.before = record {
+    -- the spot is reached by each move that enters it
+    can_arrive : (t : ℕ) → CanEnter here there from.interval s.spot.interval r t → IsArrived g q a s.spot (t + 1)
+    can_arrive t can =
+        let move : MayMove g a from.cell s.spot.cell t = record {
           side = source.side;
           beside = source.beside;
           opens = source.opens;
-          untaken = safe.free (entry.before + 1) can.lands;
+          untaken = safe.free (t + 1) can.lands;
           unbarred = rw (here_is, there_is) can.unbarred;
         } in
-        let waits : Reached g (traffic_by a) q.start q.depart from.cell entry.before =
-        wait_until g q a from.cell r entry.before source.arrived.reached can.not_before
+        let waits : Reached g (traffic_by a) q.start q.depart from.cell t =
+        wait_until g q a from.cell r t source.arrived.reached can.not_before
         (λ y low high. source.safe.free y (omega (arith, source.arrived.inside.0), omega (arith, can.until))) in
-        record {
-          reached = subst (λ (n : ℕ). Reached g (traffic_by a) q.start q.depart s.spot.cell n) (sym entry.time_is) (move_on g q a move waits);
-          inside = subst (λ (n : ℕ). IsIn n s.spot.interval) (sym entry.time_is) can.lands;
-        }
+        record { reached = move_on g q a move waits; inside = can.lands }
+
+    -- a final state has the least arrival already
+    pub visited_final : (f : ℕ) → s.mark ≡ Final f → IsUnderWay g q horizon a states cursor x → IsVisited g q horizon a states cursor x here there from r s.spot
+    visited_final f mark way =
+        let stands : slice_get states j ≡ Some (final s.spot f) = at ∙ ap (λ (m : Mark). Some (marked s.spot m)) mark in (
+          way,
+          (λ t can in_time. record {
+            place = j;
+            spot = s.spot;
+            arrival = f;
+            stands = inr stands;
+            cell_is = refl;
+            holds = can.lands;
+            early = (way.final_well j f s.spot stands).least (t + 1) (can_arrive t can);
+          }),
+        )
+
+  module _ (j e : ℕ) (s : State) (at : slice_get states j ≡ Some s) (here_is : a from.cell.0 ≡ here) (there_is : a s.spot.cell.0 ≡ there)
+      (source : IsSource g q horizon a from r s.spot.cell) (spots : AreSpots g q horizon a (spots_of states)) (entry : IsEntry here there from.interval s.spot.interval r e) where
+    -- the spot is reached at the offered time
+    pub entry_arrives : IsArrived g q a s.spot e
+    entry_arrives = subst (λ (n : ℕ). IsArrived g q a s.spot n) (sym entry.time_is) (can_arrive j s at here_is there_is source spots entry.before entry.enters)
 
     pub visited_offered : IsUnderWay g q horizon a states cursor x → cursor ≤ e + s.spot.left → e + s.spot.left ≤ horizon
         → IsVisited g q horizon a (set states j (offered s e)) cursor x here there from r s.spot
@@ -93,7 +112,7 @@ module _ (g : Terrain) (q : Request) (horizon : ℕ) (a : Assignment) (old now :
       let holds = block_holds g q.goal horizon known (spots_of old) to first (t + 1) block (omega arith) free in
       let spot : Spot = record { cell = to; interval = holds.1; left = block.left } in
       let at : slice_get (spots_of old) (first + holds.0) ≡ Some spot = block.each holds.0 holds.1 holds.2 in
-      let left : block.left ≡ near.left = bound.once to block.left near.left block.distance near.distance in
+      let left : block.left ≤ near.left = block.distance.least near.left near.way in
       entered (first + holds.0) spot (omega arith) (before holds.0 holds.1 holds.2) at t
       (record { not_before = since; until = until; lands = holds.3; unbarred = move.unbarred }) (omega (arith, near.below))
     where

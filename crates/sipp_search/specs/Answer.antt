@@ -52,6 +52,18 @@ pub record IsNoRoute (g : Terrain) (horizon : ℕ) (a : Assignment) (q : Request
   pub none : (w : TimedWalk) → IsWalkOf g horizon q w → ¬ (IsFreeIn (traffic_by a) w)
   pub settled : IsTable g horizon a q horizon table
 
+-- the walk is the canonical one: a free walk of the request, and none arrives earlier
+pub record IsBestWalk (g : Terrain) (horizon : ℕ) (a : Assignment) (q : Request) (w : TimedWalk) : Type 0 where
+  pub canonical : IsCanonical g horizon (traffic_by a) q w
+  pub walk_of : IsWalkOf g horizon q w
+  pub free : IsFreeIn (traffic_by a) w
+  pub least : (v : TimedWalk) → IsWalkOf g horizon q v → IsFreeIn (traffic_by a) v → arrival w ≤ arrival v
+
+-- the walk that was found is the best one; where none was, no walk of the request within the horizon is free
+abbrev pub IsFoundWalk : Terrain → ℕ → Assignment → Request → Option TimedWalk → Type 0
+IsFoundWalk g horizon a q (Some w) = IsBestWalk g horizon a q w
+IsFoundWalk g horizon a q None = (w : TimedWalk) → IsWalkOf g horizon q w → ¬ (IsFreeIn (traffic_by a) w)
+
 abbrev pub IsAnswerOf : Terrain → ℕ → Assignment → Request → Found → Type 0
 IsAnswerOf g horizon a q (Route walk table) = IsRoute g horizon a q walk table
 IsAnswerOf g horizon a q (NoRoute table) = IsNoRoute g horizon a q table

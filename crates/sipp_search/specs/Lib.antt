@@ -1,3 +1,4 @@
+pub mod Scratch
 pub mod Answer
 pub mod Marks
 pub mod Progress

@@ -8,7 +8,7 @@ use Rattle.fleet_base.specs.Reach.{Reached}
 use Rattle.calendars.specs.Records.{covers, is_exchange}
 use Rattle.calendars.specs.Assignments.{Assignment, traffic_by}
 use Rattle.safe_intervals.specs.Safe.{IsIn, IsSafeInterval}
-use Rattle.static_distance.specs.Distance.{IsDistance}
+use Rattle.static_distance.specs.Distance.{IsWay, IsDistance}
 use Rattle.sipp_search.specs.declared.states.Spot.{Spot}
 use Rattle.sipp_search.specs.declared.states.State.{State}
 use Rattle.sipp_search.specs.Marks.{queued, final, final_count}
@@ -21,10 +21,10 @@ pub record MayMove (g : Terrain) (a : Assignment) (b c : Cell) (t : ℕ) : Type 
   pub untaken : covers (a c.0) (t + 1) ≡ false
   pub unbarred : is_exchange (a b.0) (a c.0) t ≡ false
 
--- the static distance of the cell is at most k
+-- a way of at most k moves leads from the cell to the goal
 pub record IsWithin (g : Terrain) (goal c : Cell) (k : ℕ) : Type 0 where
   pub left : ℕ
-  pub distance : IsDistance g goal c left
+  pub way : IsWay g goal c left
   pub below : left ≤ k
 
 -- what a search needs of the static distance: a cell has one at most, and a move lowers it by 1 at most

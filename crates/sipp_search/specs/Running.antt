@@ -8,7 +8,7 @@ use Rattle.fleet_base.specs.Terrain.{Terrain, IsBeside}
 use Rattle.fleet_base.specs.Reach.{Reached, MayEnd}
 use Rattle.calendars.specs.Assignments.{Assignment, Agrees, traffic_by}
 use Rattle.safe_intervals.specs.Safe.{IsIn}
-use Rattle.static_distance.specs.Distance.{AreDistances}
+use Rattle.static_distance.specs.Aim.{room, IsAimed}
 use Rattle.sipp_search.specs.declared.states.Spot.{Spot}
 use Rattle.sipp_search.specs.declared.states.State.{State}
 use Rattle.sipp_search.specs.declared.states.Arena.{Arena}
@@ -18,9 +18,8 @@ use Rattle.sipp_search.specs.Marks.{spots_of, keys_of, queued, final}
 use Rattle.sipp_search.specs.Arena.{IsArena}
 use Rattle.sipp_search.specs.Progress.{IsBound, IsWithin, HasFinal, AreSpots, IsFinalWell}
 
--- what is asked is right: the distances are those of the goal, and the view has the cells of the grid
-pub record IsReady (g : Terrain) (q : Request) (horizon : ℕ) (distances : List (Option ℕ)) (size : ℕ) : Type 0 where
-  pub distances_right : AreDistances g q.goal distances
+-- what is asked is right, and the view has the cells of the grid
+pub record IsReady (g : Terrain) (q : Request) (horizon size : ℕ) : Type 0 where
   pub bound : IsBound g q.goal
   pub size_is : size ≡ length g.cells
   pub in_range : horizon ≤ 8000
@@ -29,8 +28,17 @@ pub record IsReady (g : Terrain) (q : Request) (horizon : ℕ) (distances : List
 pub record IsSound (g : Terrain) (q : Request) (horizon : ℕ) (known : ℕ → Option (List Record)) (size : ℕ) (arena : Arena) : Type 0 where
   pub paired : arena.queue.keys ≡ keys_of arena.states.items
   pub bound : arena.queue.bound ≡ horizon
-  pub count : length arena.firsts.items ≡ size
-  pub arranged : IsArena g q.goal horizon known (spots_of arena.states.items) arena.firsts.items
+  pub count : length arena.firsts ≡ size
+  pub arranged : IsArena g q.goal horizon known (spots_of arena.states.items) arena.firsts
+  pub aimed : IsAimed g arena.distances
+  pub goal_is : arena.distances.goal ≡ q.goal
+  pub room_is : room arena.distances ≡ length g.cells
+
+-- the arena serves grids of that many cells up to the horizon, whatever is in it
+pub record Serves (horizon cells : ℕ) (arena : Arena) : Type 0 where
+  pub bound : arena.queue.bound ≡ horizon
+  pub count : length arena.firsts ≡ cells
+  pub room_is : room arena.distances ≡ cells
 
 -- whatever was known is still known
 abbrev pub KeepsKnown : (ℕ → Option (List Record)) → (ℕ → Option (List Record)) → Type 0
@@ -62,6 +70,7 @@ pub record SettlesNext (old new : Arena) (limit : ℕ) (taken : Taken) : Type 0 
   pub rises : old.queue.floor ≤ taken.arrival + taken.spot.left
   pub states_are : new.states.items ≡ slice_set old.states.items taken.id (final taken.spot taken.arrival)
   pub firsts_are : new.firsts ≡ old.firsts
+  pub distances_are : new.distances ≡ old.distances
   pub queue_is : new.queue ≡ record old.queue { keys = keys_of new.states.items; floor = taken.arrival + taken.spot.left }
 
 -- each queued key is above the limit
@@ -108,3 +117,7 @@ pub record IsTaken (arena : Arena) (taken : Taken) : Type 0 where
 -- only cells of final states and cells beside them were loaded
 abbrev pub LoadsFor : Terrain → (ℕ → Option (List Record)) → (ℕ → Option (List Record)) → List State → Type 0
 LoadsFor g old new states = (n : ℕ) → IsSome (new n) → IsSome (old n) ⊎ IsLoadedFor g states n
+
+-- only the cells of start and goal, those of final states and cells beside these were loaded
+abbrev pub LoadsInAll : Terrain → Request → (ℕ → Option (List Record)) → (ℕ → Option (List Record)) → List State → Type 0
+LoadsInAll g q old new states = (n : ℕ) → IsSome (new n) → IsSome (old n) ⊎ (((n ≡ q.start.0) ⊎ (n ≡ q.goal.0)) ⊎ IsLoadedFor g states n)

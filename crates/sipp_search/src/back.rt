@@ -46,12 +46,12 @@ fn arrival_until(state: State, time: u32) -> Option<u32>
 
 // The arrival in the interval of the cell that holds the time, where the cell is reached in it by then.
 fn last_arrival(task: &Task, arena: &Arena, cell: Cell, time: u32) -> Option<u32>
-    requires cell { cell.0 < length arena.now.firsts.items }
+    requires cell { cell.0 < length arena.now.firsts }
     ensures some { IfSome result (λ r. (has : HasFinal arena.now.states.items cell time) × (has.arrival ≡ r)) }
     ensures none { IfNone result ((known : ℕ → Option (List Record)) (size : ℕ) → IsSound task.now.grid.now task.now.request task.now.horizon known size arena.now
         → HasFinal arena.now.states.items cell time → ⊥) }
 {
-    let first = arena.firsts[cell.0 as usize];
+    let first = arena.firsts.get(cell.0 as usize) as usize;
     if first == 0 {
         return None;
     }
@@ -75,7 +75,7 @@ fn hop_from<V: CalendarView>(
     entered: u32,
     side: Side,
 ) -> Option<Hop>
-    requires ready { IsReady task.now.grid.now task.now.request task.now.horizon task.now.distances.now (V.size view.now) }
+    requires ready { IsReady task.now.grid.now task.now.request task.now.horizon (V.size view.now) }
     requires sound { IsSound task.now.grid.now task.now.request task.now.horizon (V.known view.now) (V.size view.now) arena.now }
     requires on { IsOn arena.now.states.items at entered }
     requires time { entered ≤ 8000 }
@@ -110,7 +110,7 @@ fn before<V: CalendarView>(
     at: Cell,
     entered: u32,
 ) -> Option<Hop>
-    requires ready { IsReady task.now.grid.now task.now.request task.now.horizon task.now.distances.now (V.size view.now) }
+    requires ready { IsReady task.now.grid.now task.now.request task.now.horizon (V.size view.now) }
     requires sound { IsSound task.now.grid.now task.now.request task.now.horizon (V.known view.now) (V.size view.now) arena.now }
     requires on { IsOn arena.now.states.items at entered }
     requires time { entered ≤ 8000 }
@@ -149,7 +149,7 @@ pub fn read_back<V: CalendarView>(
     arena: &Arena,
     arrival: u32,
 ) -> Result<Vec<Cell>, Memory>
-    requires ready { IsReady task.now.grid.now task.now.request task.now.horizon task.now.distances.now (V.size view.now) }
+    requires ready { IsReady task.now.grid.now task.now.request task.now.horizon (V.size view.now) }
     requires sound { IsSound task.now.grid.now task.now.request task.now.horizon (V.known view.now) (V.size view.now) arena.now }
     requires on { IsOn arena.now.states.items task.now.request.goal arrival }
     requires time { arrival ≤ 8000 }

@@ -1,4 +1,4 @@
-ghost use Rattle.std.specs.Prelude.{◌≡◌, ◌≢◌, ℕ, suc, ◌+◌, ◌<◌, ◌≤◌, ◌⊎◌, [], List, Option, Some, None, IsSome, OnOk, IfOk, IfSome, IfNone, length, slice_get, replicate};
+ghost use Rattle.std.specs.Prelude.{◌≡◌, ◌≢◌, ℕ, suc, ◌+◌, ◌<◌, ◌≤◌, ◌⊎◌, [], List, Option, Some, None, IsSome, OnOk, IfOk, IfSome, IfNone, length, slice_get};
 ghost use Rattle.std.specs.Bool.{OnTrue, OnFalse};
 ghost use Rattle.fleet_base.specs.Terrain.{Terrain};
 ghost use Rattle.fleet_base.specs.declared.grid.Cell.{Cell as ACell};
@@ -10,29 +10,33 @@ ghost use Rattle.sipp_search.specs.declared.states.Spot.{Spot as ASpot};
 ghost use Rattle.sipp_search.specs.Marks.{spots_of, keys_of, final, final_count};
 ghost use Rattle.sipp_search.specs.Arena.{IsBlock};
 ghost use Rattle.sipp_search.specs.Progress.{IsUnderWay};
-ghost use Rattle.sipp_search.specs.Running.{IsReady, IsSound, KeepsKnown};
+ghost use Rattle.sipp_search.specs.Running.{IsReady, IsSound, Serves, KeepsKnown};
 
 use crate::expand::offer;
 use crate::states::Arena;
 use crate::task::Task;
 use crate::touch::block_of;
-use bucket_queue::BucketQueue;
 use calendars::CalendarView;
 use fleet_base::{Cell, Memory};
 use safe_intervals::Interval;
-use std::alloc::Global;
 
-// An arena in which nothing is touched.
-pub fn empty_arena(alloc: Global, cells: usize, horizon: u32) -> Result<Arena, Memory>
-    ensures none { IfOk result (λ arena. arena.states.items ≡ []) }
-    ensures queue { IfOk result (λ arena. arena.queue ≡ record { keys = []; floor = 0; bound = horizon }) }
-    ensures untouched { IfOk result (λ arena. arena.firsts.items ≡ replicate cells 0) }
+// Forgets what an earlier search touched, also one that ended for want of memory, and aims at the goal.
+pub fn prepare(task: &Task, arena: &mut Arena) -> Result<(), Memory>
+    requires serves { Serves task.now.horizon (length task.now.grid.now.cells) arena.old }
+    requires start { task.now.request.start.0 < length task.now.grid.now.cells }
+    requires goal { task.now.request.goal.0 < length task.now.grid.now.cells }
+    ensures serves { Serves task.now.horizon (length task.now.grid.now.cells) arena.new }
+    ensures sound { OnOk result ((known : ℕ → Option (List Record)) → IsSound task.now.grid.now task.now.request task.now.horizon known (length task.now.grid.now.cells) arena.new) }
+    ensures none { arena.new.states.items ≡ [] }
+    ensures floor { arena.new.queue.floor ≡ 0 }
 {
-    Ok(Arena {
-        states: Vec::new(alloc),
-        firsts: vec![in alloc; 0usize; cells]?,
-        queue: BucketQueue::new(alloc, horizon)?,
-    })
+    arena.states.clear();
+    arena.queue.clear();
+    arena.firsts.clear();
+    arena
+        .distances
+        .aim(task.grid, task.request.goal, task.request.start)?;
+    Ok(())
 }
 
 fn holds(interval: Interval, time: u32) -> bool
@@ -62,7 +66,7 @@ fn place_at(arena: &Arena, first: usize, cell: Cell, time: u32) -> Option<usize>
 
 // Queues the start at the departure, where it is free then and the goal could be reached from it by the horizon.
 pub fn begin<V: CalendarView>(task: &Task, view: &mut V, arena: &mut Arena) -> Result<(), Memory>
-    requires ready { IsReady task.now.grid.now task.now.request task.now.horizon task.now.distances.now (V.size view.old) }
+    requires ready { IsReady task.now.grid.now task.now.request task.now.horizon (V.size view.old) }
     requires sound { IsSound task.now.grid.now task.now.request task.now.horizon (V.known view.old) (V.size view.old) arena.old }
     requires start { task.now.request.start.0 < V.size view.old }
     requires goal { task.now.request.goal.0 < V.size view.old }
@@ -72,6 +76,7 @@ pub fn begin<V: CalendarView>(task: &Task, view: &mut V, arena: &mut Arena) -> R
     ensures went { V.went view.old view.new }
     ensures kept { KeepsKnown (V.known view.old) (V.known view.new) }
     ensures loads { (n : ℕ) → IsSome (V.known view.new n) → IsSome (V.known view.old n) ⊎ ((n ≡ task.now.request.start.0) ⊎ (n ≡ task.now.request.goal.0)) }
+    ensures serves { Serves task.now.horizon (length task.now.grid.now.cells) arena.new }
     ensures sound { OnOk result (IsSound task.now.grid.now task.now.request task.now.horizon (V.known view.new) (V.size view.new) arena.new) }
     ensures floor { OnOk result (arena.new.queue.floor ≡ 0) }
     ensures none_final { OnOk result ((i r : ℕ) (p : ASpot) → slice_get arena.new.states.items i ≢ Some (final p r)) }
@@ -79,7 +84,7 @@ pub fn begin<V: CalendarView>(task: &Task, view: &mut V, arena: &mut Arena) -> R
     ensures way { OnOk result ((a : Assignment) (x : ℕ) → Agrees a (V.known view.new) → IsUnderWay task.now.grid.now task.now.request task.now.horizon a arena.new.states.items 0 x) }
 {
     let request = task.request;
-    let Some(left) = task.distances.to_goal(request.start) else {
+    let Some(left) = arena.distances.to_goal(task.grid, request.start)? else {
         return Ok(());
     };
     let Some(room) = task.horizon.checked_sub(request.depart) else {

@@ -2,7 +2,7 @@ ghost use Rattle.std.specs.Prelude.{◌≡◌, ◌≢◌, ℕ, suc, ◌+◌, ◌
 ghost use Rattle.fleet_base.specs.Terrain.{Terrain, IsBeside};
 ghost use Rattle.fleet_base.specs.declared.grid.Cell.{Cell as ACell};
 ghost use Rattle.fleet_base.specs.Canonical.{rank_of};
-ghost use Rattle.sipp_search.specs.Running.{IsReady, IsSound, IsTaken, KeepsKnown, KeepsSpots, LoadsBeside, LoadsAround};
+ghost use Rattle.sipp_search.specs.Running.{IsReady, IsSound, Serves, IsTaken, KeepsKnown, KeepsSpots, LoadsBeside, LoadsAround};
 ghost use Rattle.fleet_base.specs.declared.request.Request.{Request};
 ghost use Rattle.calendars.specs.Records.{covers};
 ghost use Rattle.calendars.specs.Assignments.{Assignment, Agrees};
@@ -44,8 +44,12 @@ fn entry_time(
     if entry > to.to.min(from.to + 1) {
         return None;
     }
-    // Where the earliest move is an exchange, no later one is free.
     let _in_order = here.records();
+    // Who takes part in an exchange leaves at the end of the interval.
+    if entry <= from.to {
+        return Some(entry);
+    }
+    // Where the earliest move is an exchange, no later one is free.
     if crossing(here, there, entry - 1) {
         return None;
     }
@@ -65,6 +69,7 @@ fn is_better(mark: Mark, arrival: u32) -> bool
 }
 
 // Queues a state at an arrival, or moves it there where it was queued at a later one.
+#[inline(always)]
 pub fn offer(
     states: &mut Vec<State>,
     queue: &mut BucketQueue,
@@ -79,6 +84,7 @@ pub fn offer(
     requires high { key ≤ queue.old.bound }
     ensures states { OnOk result ((s : State) → slice_get states.old.items id ≡ Some s → states.new.items ≡ slice_set states.old.items id (offered s arrival)) }
     ensures queue { OnOk result (queue.new ≡ record queue.old { keys = keys_of states.new.items }) }
+    ensures bound { queue.new.bound ≡ queue.old.bound }
 {
     if is_better(states[id].mark, arrival) {
         queue.put(id, key)?;
@@ -107,6 +113,7 @@ fn visit(
     requires free { (t : ℕ) → IsIn t from.interval → covers here.now t ≡ false }
     requires low { (s : State) → slice_get states.old.items j ≡ Some s → queue.old.floor ≤ arrival + 1 + s.spot.left }
     ensures queue { OnOk result (queue.new ≡ record queue.old { keys = keys_of states.new.items }) }
+    ensures bound { queue.new.bound ≡ queue.old.bound }
     ensures spots { OnOk result (spots_of states.new.items ≡ spots_of states.old.items) }
     ensures improves { OnOk result (Improves states.old.items states.new.items) }
     ensures visited { OnOk result ((g : Terrain) (q : Request) (a : Assignment) (x : ℕ) (s : State) → slice_get states.old.items j ≡ Some s
@@ -114,7 +121,11 @@ fn visit(
         → AreSpots g q horizon a (spots_of states.old.items) → IsUnderWay g q horizon a states.old.items queue.old.floor x
         → IsUnderWay g q horizon a states.new.items queue.old.floor x × HasEntered here.now there.now horizon states.new.items from arrival s.spot) }
 {
-    let to = states[j].spot;
+    let state = states[j];
+    if let Mark::Final(_) = state.mark {
+        return Ok(());
+    }
+    let to = state.spot;
     let Some(entry) = entry_time(here, there, from.interval, to.interval, arrival) else {
         return Ok(());
     };
@@ -149,6 +160,7 @@ fn reach_into<V: CalendarView>(
     requires free { (records : List Record) (t : ℕ) → V.known view.now from.cell.0 ≡ Some records → IsIn t from.interval → covers records t ≡ false }
     requires low { (i : ℕ) (p : Spot) → slice_get (spots_of states.old.items) i ≡ Some p → p.cell ≡ to → queue.old.floor ≤ arrival + 1 + p.left }
     ensures queue { OnOk result (queue.new ≡ record queue.old { keys = keys_of states.new.items }) }
+    ensures bound { queue.new.bound ≡ queue.old.bound }
     ensures spots { OnOk result (spots_of states.new.items ≡ spots_of states.old.items) }
     ensures improves { OnOk result (Improves states.old.items states.new.items) }
     ensures led { OnOk result ((g : Terrain) (q : Request) (a : Assignment) (x : ℕ) → Agrees a (V.known view.now) → IsSource g q horizon a from arrival to
@@ -176,7 +188,7 @@ fn move_to<V: CalendarView>(
     arrival: u32,
     side: Side,
 ) -> Result<(), Memory>
-    requires ready { IsReady task.now.grid.now task.now.request task.now.horizon task.now.distances.now (V.size view.old) }
+    requires ready { IsReady task.now.grid.now task.now.request task.now.horizon (V.size view.old) }
     requires sound { IsSound task.now.grid.now task.now.request task.now.horizon (V.known view.old) (V.size view.old) arena.old }
     requires placed { (i : ℕ) × (slice_get (spots_of arena.old.states.items) i ≡ Some from) }
     requires arrived { IsIn arrival from.interval }
@@ -185,6 +197,7 @@ fn move_to<V: CalendarView>(
     ensures went { V.went view.old view.new }
     ensures kept { KeepsKnown (V.known view.old) (V.known view.new) }
     ensures loads { LoadsBeside task.now.grid.now side from.cell (V.known view.old) (V.known view.new) }
+    ensures serves { Serves task.now.horizon (length task.now.grid.now.cells) arena.new }
     ensures sound { OnOk result (IsSound task.now.grid.now task.now.request task.now.horizon (V.known view.new) (V.size view.new) arena.new) }
     ensures floor { OnOk result (arena.new.queue.floor ≡ arena.old.queue.floor) }
     ensures spots { OnOk result (KeepsSpots arena.old.states.items arena.new.states.items) }
@@ -232,13 +245,14 @@ pub fn expand<V: CalendarView>(
     arena: &mut Arena,
     taken: Taken,
 ) -> Result<(), Memory>
-    requires ready { IsReady task.now.grid.now task.now.request task.now.horizon task.now.distances.now (V.size view.old) }
+    requires ready { IsReady task.now.grid.now task.now.request task.now.horizon (V.size view.old) }
     requires sound { IsSound task.now.grid.now task.now.request task.now.horizon (V.known view.old) (V.size view.old) arena.old }
     requires taken { IsTaken arena.old taken }
     ensures cells { V.size view.new ≡ V.size view.old }
     ensures went { V.went view.old view.new }
     ensures kept { KeepsKnown (V.known view.old) (V.known view.new) }
     ensures loads { LoadsAround task.now.grid.now taken.spot.cell (V.known view.old) (V.known view.new) }
+    ensures serves { Serves task.now.horizon (length task.now.grid.now.cells) arena.new }
     ensures sound { OnOk result (IsSound task.now.grid.now task.now.request task.now.horizon (V.known view.new) (V.size view.new) arena.new) }
     ensures floor { OnOk result (arena.new.queue.floor ≡ arena.old.queue.floor) }
     ensures spots { OnOk result (KeepsSpots arena.old.states.items arena.new.states.items) }

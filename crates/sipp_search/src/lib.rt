@@ -1,15 +1,17 @@
 // The search over cells and safe intervals (Phillips and Likhachev, 2011), directed by the static distance.
 // Its one contract: `search` gives the canonical walk of a request, or says that no free walk exists, for every
 // assignment of calendars that has the loaded ones, and the table of exactly the states that it settled.
-// Modules: `sipp` (the search), `answer` (what it answers), `steps` (the counter of takes), `task` (what is asked), `states`
-// (the arena), `begin`, `touch`, `expand` and `run` (the search's parts), `back` and `table` (the answer's).
+// Modules: `searcher` and `sipp` (the search), `answer` (what it answers), `steps` (the counter of takes), `task` (what is asked), `states`
+// (the arena), `begin`, `touch`, `expand` and `run` (the search's parts), `back`, `table` and `reply` (the answer's).
 #![tactic(auto)]
 
 mod answer;
 mod back;
 mod begin;
 mod expand;
+mod reply;
 mod run;
+mod searcher;
 mod sipp;
 mod states;
 mod steps;
@@ -20,5 +22,5 @@ mod tests;
 mod touch;
 
 pub use answer::{Found, Settled, Table};
-pub use sipp::search;
+pub use searcher::{Searcher, search};
 pub use steps::Steps;

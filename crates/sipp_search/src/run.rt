@@ -8,8 +8,9 @@ ghost use Rattle.sipp_search.specs.declared.states.Spot.{Spot as ASpot};
 ghost use Rattle.sipp_search.specs.Marks.{keys_of, final, final_count};
 ghost use Rattle.sipp_search.specs.Answer.{AreListsOf, interval_count};
 ghost use Rattle.sipp_search.specs.Progress.{IsUnderWay};
-ghost use Rattle.sipp_search.specs.Running.{IsReady, IsSound, KeepsKnown, SettlesNext, AreAbove, IsOver, Ends, MayEndIn, NeverEndsIn, LoadsFor};
+ghost use Rattle.sipp_search.specs.Running.{IsReady, IsSound, Serves, KeepsKnown, SettlesNext, AreAbove, IsOver, Ends, MayEndIn, NeverEndsIn, LoadsFor, LoadsInAll};
 
+use crate::begin::{begin, prepare};
 use crate::expand::expand;
 use crate::states::{Arena, Mark, Spot, State, Taken};
 use crate::steps::Steps;
@@ -92,13 +93,13 @@ fn first_end<V: CalendarView>(
 
 // Settles the queued states in the order of their keys: all up to the arrival at the goal, or up to the horizon where the
 // goal isn't reached. Gives that arrival.
-pub fn run<V: CalendarView, L: Ledger>(
+fn run<V: CalendarView, L: Ledger>(
     task: &Task,
     view: &mut V,
     arena: &mut Arena,
     steps: &mut Steps<L>,
 ) -> Result<Option<u32>, Memory>
-    requires ready { IsReady task.now.grid.now task.now.request task.now.horizon task.now.distances.now (V.size view.old) }
+    requires ready { IsReady task.now.grid.now task.now.request task.now.horizon (V.size view.old) }
     requires sound { IsSound task.now.grid.now task.now.request task.now.horizon (V.known view.old) (V.size view.old) arena.old }
     requires floor { arena.old.queue.floor ≤ task.now.horizon }
     requires none_final { (i r : ℕ) (p : ASpot) → slice_get arena.old.states.items i ≢ Some (final p r) }
@@ -110,6 +111,7 @@ pub fn run<V: CalendarView, L: Ledger>(
     ensures takes { (lists : ℕ → List Interval) → AreListsOf (V.known view.new) task.now.horizon lists → steps.new ≤ steps.old + interval_count (V.known view.new) lists (V.size view.new) }
     ensures rises { steps.old ≤ steps.new }
     ensures counted { OnOk result (steps.new ≡ steps.old + final_count arena.new.states.items) }
+    ensures serves { Serves task.now.horizon (length task.now.grid.now.cells) arena.new }
     ensures sound { OnOk result (IsSound task.now.grid.now task.now.request task.now.horizon (V.known view.new) (V.size view.new) arena.new) }
     ensures loads { OnOk result (LoadsFor task.now.grid.now (V.known view.old) (V.known view.new) arena.new.states.items) }
     ensures in_time { IfOk result (λ found. unwrap_or found task.now.horizon ≤ task.now.horizon) }
@@ -123,5 +125,36 @@ pub fn run<V: CalendarView, L: Ledger>(
         expand(task, view, arena, taken)?;
         found = first_end(task, &*view, taken, found);
     }
+    Ok(found)
+}
+
+// A whole search. It begins with nothing touched, whatever is in the arena.
+pub fn settle<V: CalendarView, L: Ledger>(
+    task: &Task,
+    view: &mut V,
+    arena: &mut Arena,
+    steps: &mut Steps<L>,
+) -> Result<Option<u32>, Memory>
+    requires ready { IsReady task.now.grid.now task.now.request task.now.horizon (V.size view.old) }
+    requires serves { Serves task.now.horizon (length task.now.grid.now.cells) arena.old }
+    requires start { task.now.request.start.0 < V.size view.old }
+    requires goal { task.now.request.goal.0 < V.size view.old }
+    ensures cells { V.size view.new ≡ V.size view.old }
+    ensures went { V.went view.old view.new }
+    ensures kept { KeepsKnown (V.known view.old) (V.known view.new) }
+    ensures takes { (lists : ℕ → List Interval) → AreListsOf (V.known view.new) task.now.horizon lists → steps.new ≤ steps.old + interval_count (V.known view.new) lists (V.size view.new) }
+    ensures rises { steps.old ≤ steps.new }
+    ensures counted { OnOk result (steps.new ≡ steps.old + final_count arena.new.states.items) }
+    ensures serves { Serves task.now.horizon (length task.now.grid.now.cells) arena.new }
+    ensures sound { OnOk result (IsSound task.now.grid.now task.now.request task.now.horizon (V.known view.new) (V.size view.new) arena.new) }
+    ensures loads { OnOk result (LoadsInAll task.now.grid.now task.now.request (V.known view.old) (V.known view.new) arena.new.states.items) }
+    ensures in_time { IfOk result (λ found. unwrap_or found task.now.horizon ≤ task.now.horizon) }
+    ensures over { IfOk result (λ found. (a : Assignment) → Agrees a (V.known view.new)
+        → IsOver task.now.grid.now task.now.request task.now.horizon a arena.new.states.items (unwrap_or found task.now.horizon)) }
+    ensures ends { IfOk result (λ found. (a : Assignment) → Agrees a (V.known view.new) → Ends task.now.request a arena.new.states.items found) }
+{
+    prepare(task, arena)?;
+    begin(task, view, arena)?;
+    let found = run(task, view, arena, steps)?;
     Ok(found)
 }

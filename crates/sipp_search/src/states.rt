@@ -1,6 +1,12 @@
+ghost use Rattle.std.specs.Prelude.{IfOk};
+ghost use Rattle.sipp_search.specs.Running.{Serves};
+
 use bucket_queue::BucketQueue;
-use fleet_base::Cell;
+use fleet_base::{Cell, Memory};
 use safe_intervals::Interval;
+use stamped_list::StampedList;
+use static_distance::Distances;
+use std::alloc::Global;
 
 /// A cell, one of its safe intervals, and the static distance from the cell to the goal.
 #[derive(Clone, Copy)]
@@ -30,8 +36,21 @@ pub struct State {
 #[derive(Drop)]
 pub struct Arena {
     pub states: Vec<State>,
-    pub firsts: Vec<usize>,
+    pub firsts: StampedList,
     pub queue: BucketQueue,
+    pub distances: Distances,
+}
+
+// An arena for grids of that many cells, up to the horizon.
+pub fn new_arena(alloc: Global, cells: usize, horizon: u32) -> Result<Arena, Memory>
+    ensures { IfOk result (Serves horizon cells) }
+{
+    Ok(Arena {
+        states: Vec::new(alloc),
+        firsts: StampedList::new(alloc, cells)?,
+        queue: BucketQueue::new(alloc, horizon)?,
+        distances: Distances::new(alloc, cells)?,
+    })
 }
 
 // A state that was taken from the queue, and its arrival.

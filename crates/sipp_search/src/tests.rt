@@ -3,7 +3,7 @@ ghost use Rattle.fleet_base.specs.Terrain.{IsTerrain};
 
 use super::*;
 use calendars::{Calendar, ListView};
-use fleet_base::{Cell, Grid, Memory, Record, Request, RouteId};
+use fleet_base::{Cell, Grid, Memory, Record, Request, RouteId, Walk};
 use std::alloc::Global;
 use std::marker::Brand;
 use std::sync::ledger::{Blank, Ledger};
@@ -210,5 +210,64 @@ fn who_stays_comes_after_the_last_record(rt: HostRuntime) -> Result<(), Fail> {
         wish(0, 1, true),
     )?;
     assert!(rt; goes_along(&found, &[0, 3, 3, 3, 3, 3, 0, 1]));
+    Ok(())
+}
+
+fn walk_counting<L: Ledger>(
+    searcher: &mut Searcher,
+    view: &mut ListView,
+    grid: &Grid,
+    request: Request,
+    blank: Blank,
+) -> Result<Option<Walk>, Memory>
+    requires name { blank.name ≡ L.name }
+    requires parts { blank.parts ≡ L.parts }
+    requires some { 0 < blank.parts }
+    requires count { searcher.old.cells ≡ length grid.now.cells }
+    requires start { request.start.0 < length grid.now.cells }
+    requires goal { request.goal.0 < length grid.now.cells }
+    requires cells { length view.old.calendars.items ≡ length grid.now.cells }
+    ensures same { searcher.new ≡ searcher.old }
+    ensures size { length view.new.calendars.items ≡ length view.old.calendars.items }
+{
+    let mut steps = Steps::<L>::new(blank);
+    searcher.find_walk(view, grid, request, &mut steps)
+}
+
+// The walks of two requests, one after the other, on an open row where somebody is in a cell at the given time.
+fn find_both(
+    alloc: Global,
+    times: &[Option<u32>],
+    first: Request,
+    second: Request,
+) -> Result<(Option<Walk>, Option<Walk>), Memory>
+    requires cells { length times.now ≡ 4 }
+    requires first { (first.start.0 < 4) × (first.goal.0 < 4) }
+    requires second { (second.start.0 < 4) × (second.goal.0 < 4) }
+{
+    let grid = Grid::new(4, 1, vec![in alloc; true; 4]?);
+    let mut view = view_of(alloc, times)?;
+    let mut searcher = Searcher::new(alloc, 4, 20)?;
+    let one = walk_counting::<Brand>(&mut searcher, &mut view, &grid, first, Blank::new(1))?;
+    let two = walk_counting::<Brand>(&mut searcher, &mut view, &grid, second, Blank::new(1))?;
+    Ok((one, two))
+}
+
+fn walks_along(walk: &Option<Walk>, cells: &[u32]) -> bool {
+    match walk {
+        Some(walk) => walk.cells().iter().map(|c| c.0).eq(cells.iter().copied()),
+        None => false,
+    }
+}
+
+#[test]
+fn searches_again_in_the_same_scratch(rt: HostRuntime) -> Result<(), Fail> {
+    let times = [None, Some(3), None, None];
+    let (there, back) = find_both(rt.alloc(), &times, wish(0, 3, false), wish(3, 0, false))?;
+    assert!(rt; walks_along(&there, &[0, 1, 2, 3]));
+    assert!(rt; walks_along(&back, &[3, 2, 1, 0]));
+    let (stays, leaves) = find_both(rt.alloc(), &times, wish(0, 0, true), wish(1, 1, true))?;
+    assert!(rt; walks_along(&stays, &[0]));
+    assert!(rt; walks_along(&leaves, &[1, 0, 0, 0, 1]));
     Ok(())
 }

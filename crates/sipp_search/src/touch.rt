@@ -3,10 +3,10 @@ ghost use Rattle.fleet_base.specs.declared.grid.Cell.{Cell as ACell};
 ghost use Rattle.fleet_base.specs.Terrain.{Terrain};
 ghost use Rattle.safe_intervals.specs.declared.interval.Interval.{Interval as AnInterval};
 ghost use Rattle.safe_intervals.specs.Safe.{AreSafeIntervals};
-ghost use Rattle.static_distance.specs.Distance.{IsDistance};
+ghost use Rattle.static_distance.specs.Distance.{IsWay, IsDistance};
 ghost use Rattle.sipp_search.specs.Marks.{spots_of, keys_of, unseen};
 ghost use Rattle.sipp_search.specs.Arena.{states_for, IsBlock, IsArena};
-ghost use Rattle.sipp_search.specs.Running.{IsReady, IsSound, KeepsKnown, HasGrown};
+ghost use Rattle.sipp_search.specs.Running.{IsReady, IsSound, Serves, KeepsKnown, HasGrown};
 
 use crate::states::{Arena, Mark, Spot, State};
 use crate::task::Task;
@@ -19,6 +19,7 @@ fn add_state(states: &mut Vec<State>, queue: &mut BucketQueue, spot: Spot) -> Re
     requires { queue.old.keys ≡ keys_of states.old.items }
     ensures states { OnOk result (states.new.items ≡ states.old.items ++ unseen spot ∷ []) }
     ensures queue { OnOk result (queue.new ≡ record queue.old { keys = keys_of states.new.items }) }
+    ensures bound { queue.new.bound ≡ queue.old.bound }
 {
     queue.add()?;
     states.push(State {
@@ -41,6 +42,7 @@ fn add_states(
     requires paired { queue.old.keys ≡ keys_of states.old.items }
     ensures states { OnOk result ((list : List AnInterval) × AreSafeIntervals calendar.now horizon list × (states.new.items ≡ states.old.items ++ states_for cell left list)) }
     ensures queue { OnOk result (queue.new ≡ record queue.old { keys = keys_of states.new.items }) }
+    ensures bound { queue.new.bound ≡ queue.old.bound }
 {
     let mut from = 0;
     while let Some(interval) = next_gap(calendar, from, horizon) {
@@ -55,34 +57,37 @@ fn add_states(
     Ok(())
 }
 
-// Loads a cell and adds its states, unless that was done before.
+// Loads a cell that isn't touched and adds its states. Gives the place of the first one.
 fn touch<V: CalendarView>(
     view: &mut V,
     arena: &mut Arena,
     cell: Cell,
     left: u32,
     horizon: u32,
-) -> Result<(), Memory>
+) -> Result<usize, Memory>
     requires cell { cell.0 < V.size view.old }
-    requires count { length arena.old.firsts.items ≡ V.size view.old }
+    requires untouched { slice_get arena.old.firsts cell.0 ≡ Some 0 }
     requires horizon { horizon ≤ 8000 }
     requires paired { arena.old.queue.keys ≡ keys_of arena.old.states.items }
     ensures cells { V.size view.new ≡ V.size view.old }
     ensures went { V.went view.old view.new }
     ensures others { (c : ℕ) → c ≢ cell.0 → V.known view.new c ≡ V.known view.old c }
     ensures kept { (c : ℕ) → IsSome (V.known view.old c) → V.known view.new c ≡ V.known view.old c }
-    ensures count { OnOk result (length arena.new.firsts.items ≡ length arena.old.firsts.items) }
+    ensures count { length arena.new.firsts ≡ length arena.old.firsts }
+    ensures bound { arena.new.queue.bound ≡ arena.old.queue.bound }
+    ensures distances { arena.new.distances ≡ arena.old.distances }
     ensures queue { OnOk result (arena.new.queue ≡ record arena.old.queue { keys = keys_of arena.new.states.items }) }
     ensures states { OnOk result ((list : List AnInterval) × (arena.new.states.items ≡ arena.old.states.items ++ states_for cell left list)) }
-    ensures touched { OnOk result ((first : ℕ) × (slice_get arena.new.firsts.items cell.0 ≡ Some (suc first))) }
-    ensures arena { OnOk result ((g : Terrain) (goal : ACell) → IsArena g goal horizon (V.known view.old) (spots_of arena.old.states.items) arena.old.firsts.items
-        → IsDistance g goal cell left → IsArena g goal horizon (V.known view.new) (spots_of arena.new.states.items) arena.new.firsts.items) }
+    ensures touched { IfOk result (λ first. slice_get arena.new.firsts cell.0 ≡ Some (suc first)) }
+    ensures arena { OnOk result ((g : Terrain) (goal : ACell) → IsArena g goal horizon (V.known view.old) (spots_of arena.old.states.items) arena.old.firsts
+        → IsDistance g goal cell left → IsArena g goal horizon (V.known view.new) (spots_of arena.new.states.items) arena.new.firsts) }
 {
-    if arena.firsts[cell.0 as usize] != 0 {
-        return Ok(());
-    }
     view.load(cell)?;
     let first = arena.states.len();
+    // The places of more states have no room in `firsts`.
+    if first >= u32::MAX as usize {
+        return Err(Memory);
+    }
     add_states(
         &mut arena.states,
         &mut arena.queue,
@@ -91,33 +96,39 @@ fn touch<V: CalendarView>(
         left,
         horizon,
     )?;
-    arena.firsts[cell.0 as usize] = first + 1;
-    Ok(())
+    arena.firsts.set(cell.0 as usize, first as u32 + 1);
+    Ok(first)
 }
 
 // Touches a cell from which a way leads to the goal, and gives the place of its first state.
+#[inline(always)]
 pub fn block_of<V: CalendarView>(
     task: &Task,
     view: &mut V,
     arena: &mut Arena,
     cell: Cell,
 ) -> Result<Option<usize>, Memory>
-    requires ready { IsReady task.now.grid.now task.now.request task.now.horizon task.now.distances.now (V.size view.old) }
+    requires ready { IsReady task.now.grid.now task.now.request task.now.horizon (V.size view.old) }
     requires sound { IsSound task.now.grid.now task.now.request task.now.horizon (V.known view.old) (V.size view.old) arena.old }
     requires cell { cell.0 < V.size view.old }
     ensures cells { V.size view.new ≡ V.size view.old }
     ensures went { V.went view.old view.new }
     ensures others { (c : ℕ) → c ≢ cell.0 → V.known view.new c ≡ V.known view.old c }
     ensures kept { KeepsKnown (V.known view.old) (V.known view.new) }
+    ensures serves { Serves task.now.horizon (length task.now.grid.now.cells) arena.new }
     ensures sound { OnOk result (IsSound task.now.grid.now task.now.request task.now.horizon (V.known view.new) (V.size view.new) arena.new) }
     ensures floor { OnOk result (arena.new.queue.floor ≡ arena.old.queue.floor) }
     ensures grown { OnOk result (HasGrown arena.old.states.items arena.new.states.items) }
     ensures block { IfOk result (λ o. IfSome o (λ first. IsBlock task.now.grid.now task.now.request.goal task.now.horizon (V.known view.new) (spots_of arena.new.states.items) cell first)) }
-    ensures none { IfOk result (λ o. IfNone o ((k : ℕ) → ¬ (IsDistance task.now.grid.now task.now.request.goal cell k))) }
+    ensures none { IfOk result (λ o. IfNone o ((k : ℕ) → ¬ (IsWay task.now.grid.now task.now.request.goal cell k))) }
 {
-    let Some(left) = task.distances.to_goal(cell) else {
+    let touched = arena.firsts.get(cell.0 as usize);
+    if touched != 0 {
+        return Ok(Some(touched as usize - 1));
+    }
+    let Some(left) = arena.distances.to_goal(task.grid, cell)? else {
         return Ok(None);
     };
-    touch(view, arena, cell, left, task.horizon)?;
-    Ok(Some(arena.firsts[cell.0 as usize] - 1))
+    let first = touch(view, arena, cell, left, task.horizon)?;
+    Ok(Some(first))
 }

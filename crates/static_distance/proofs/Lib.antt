@@ -1,2 +1,3 @@
 pub mod Ways
-pub mod FloodLemmas
+pub mod Places
+pub mod LevelLemmas

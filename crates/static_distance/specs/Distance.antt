@@ -1,5 +1,5 @@
 -- Ways over open cells, and the static distance.
-use Rattle.std.specs.Prelude.{◌≡◌, ℕ, ◌+◌, ◌≤◌, List, Option, Some, None, length, slice_get}
+use Rattle.std.specs.Prelude.{ℕ, ◌+◌, ◌≤◌}
 use Rattle.fleet_base.specs.declared.grid.Cell.{Cell}
 use Rattle.fleet_base.specs.declared.grid.Side.{Side}
 use Rattle.fleet_base.specs.Terrain.{Terrain, IsOpen, IsBeside}
@@ -13,9 +13,3 @@ pub data IsWay (g : Terrain) (goal : Cell) : Cell → ℕ → Type 0 where
 pub record IsDistance (g : Terrain) (goal c : Cell) (d : ℕ) : Type 0 where
   pub way : IsWay g goal c d
   pub least : (k : ℕ) → IsWay g goal c k → d ≤ k
-
--- the list has the static distance of each cell of the grid, and none where no way leads from it to the goal
-pub record AreDistances (g : Terrain) (goal : Cell) (list : List (Option ℕ)) : Type 0 where
-  pub count : length list ≡ length g.cells
-  pub some : (c : Cell) (d : ℕ) → slice_get list c.0 ≡ Some (Some d) → IsDistance g goal c d
-  pub none : (c : Cell) (k : ℕ) → slice_get list c.0 ≡ Some None → ¬ (IsWay g goal c k)

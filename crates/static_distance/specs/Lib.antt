@@ -1,2 +1,3 @@
 pub mod Distance
-pub mod Flooding
+pub mod Levels
+pub mod Aim

@@ -1,10 +1,10 @@
 // The static distances to a goal: for each cell the least number of moves over open cells from it to the goal.
-// The contract: `Distances` has exactly these numbers (`AreDistances`), and none where no way leads to the goal.
-// `distances` has the numbers, `flood` the breadth-first search from the goal that finds them.
+// The contract: `Distances` tells exactly this number (`IsDistance`), and none where no way leads to the goal.
+// `distances` counts them from the goal on, level by level, as far as they are asked for; `place` has columns and rows.
 #![tactic(auto)]
 
 mod distances;
-mod flood;
+mod place;
 #[cfg(test)]
 mod tests;
 

@@ -1,11 +1,12 @@
-ghost use Rattle.std.specs.Prelude.{◌≡◌, length, IfOk};
+ghost use Rattle.std.specs.Prelude.{◌≡◌, ◌<◌, length, IfOk};
+ghost use Rattle.static_distance.specs.Aim.{room};
 
 use super::*;
-use fleet_base::{Cell, Grid};
+use fleet_base::{Cell, Grid, Memory};
 use std::alloc::{AllocError, Global};
 
 // Four columns and three rows; the last cell of the first row is open, and closed cells are on all its sides.
-fn grid(alloc: Global) -> Result<Grid, AllocError>
+fn shut_in(alloc: Global) -> Result<Grid, AllocError>
     ensures { IfOk result (λ g. length g.cells ≡ 12) }
 {
     let cells = Vec::from_array(
@@ -17,56 +18,59 @@ fn grid(alloc: Global) -> Result<Grid, AllocError>
     Ok(Grid::new(4, 3, cells))
 }
 
-// Counted by hand on that grid: to a corner, to the cell that is shut in, and to a closed cell.
+// Three columns and three rows; a wall leaves one way from the left to the right, round below.
+fn wall(alloc: Global) -> Result<Grid, AllocError>
+    ensures { IfOk result (λ g. length g.cells ≡ 9) }
+{
+    let cells = Vec::from_array(
+        alloc,
+        [true, false, true, true, false, true, true, true, true],
+    )?;
+    Ok(Grid::new(3, 3, cells))
+}
+
+// The distances from two cells to a goal, counted toward a third one.
+fn two(
+    distances: &mut Distances,
+    grid: &Grid,
+    goal: u32,
+    toward: u32,
+    cells: (u32, u32),
+) -> Result<(Option<u32>, Option<u32>), Memory>
+    requires room { room distances.old ≡ length grid.now.cells }
+    requires goal { goal < length grid.now.cells }
+    requires toward { toward < length grid.now.cells }
+    requires cells { (cells.0 < length grid.now.cells) × (cells.1 < length grid.now.cells) }
+    ensures { room distances.new ≡ room distances.old }
+{
+    distances.aim(grid, Cell(goal), Cell(toward))?;
+    let first = distances.to_goal(grid, Cell(cells.0))?;
+    let second = distances.to_goal(grid, Cell(cells.1))?;
+    Ok((first, second))
+}
+
+// Counted by hand: to a corner, from a cell that is shut in, and to a closed cell.
 #[test]
 fn counts_moves_over_open_cells(rt: HostRuntime) {
-    let grid = grid(rt.alloc()).expect(&rt, "memory");
-    let none = None;
-    let table = [
-        (
-            0,
-            [
-                Some(0),
-                Some(1),
-                none,
-                none,
-                none,
-                Some(2),
-                Some(3),
-                none,
-                Some(4),
-                Some(3),
-                Some(4),
-                Some(5),
-            ],
-        ),
-        (
-            3,
-            [
-                none,
-                none,
-                none,
-                Some(0),
-                none,
-                none,
-                none,
-                none,
-                none,
-                none,
-                none,
-                none,
-            ],
-        ),
-        (2, [none; 12]),
-    ];
-    for (goal, wanted) in table {
-        let distances = Distances::new(rt.alloc(), &grid, Cell(goal)).expect(&rt, "memory");
-        for cell in 0..12 {
-            assert_eq!(rt;
-                distances.to_goal(Cell(cell)),
-                wanted[cell as usize],
-                "{cell} to {goal}"
-            );
-        }
-    }
+    let grid = shut_in(rt.alloc()).expect(&rt, "memory");
+    let mut distances = Distances::new(rt.alloc(), 12).expect(&rt, "memory");
+    let corner = two(&mut distances, &grid, 0, 8, (8, 11)).expect(&rt, "memory");
+    assert_eq!(rt; corner, (Some(4), Some(5)));
+    let corner = two(&mut distances, &grid, 11, 11, (0, 3)).expect(&rt, "memory");
+    assert_eq!(rt; corner, (Some(5), None));
+    let alone = two(&mut distances, &grid, 3, 0, (3, 0)).expect(&rt, "memory");
+    assert_eq!(rt; alone, (Some(0), None));
+    let closed = two(&mut distances, &grid, 2, 1, (1, 2)).expect(&rt, "memory");
+    assert_eq!(rt; closed, (None, None));
+}
+
+// Counted by hand: round the wall, whichever cell they are counted toward.
+#[test]
+fn goes_round_a_wall(rt: HostRuntime) {
+    let grid = wall(rt.alloc()).expect(&rt, "memory");
+    let mut distances = Distances::new(rt.alloc(), 9).expect(&rt, "memory");
+    let near = two(&mut distances, &grid, 2, 2, (0, 7)).expect(&rt, "memory");
+    assert_eq!(rt; near, (Some(6), Some(3)));
+    let far = two(&mut distances, &grid, 2, 0, (5, 0)).expect(&rt, "memory");
+    assert_eq!(rt; far, (Some(1), Some(6)));
 }

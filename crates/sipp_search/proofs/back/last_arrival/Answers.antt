@@ -13,14 +13,14 @@ use Rattle.sipp_search.proofs.back.last_arrival.Goals as goal
 
 pub returns-then-first-eq0-clause-none : goal.returns-then-first-eq0-clause-none
 returns-then-first-eq0-clause-none c = λ known size sound has.
-    (let at : slice_get c.args.arena.now.firsts.items c.args.cell.0 ≡ Some c.index-first.result.now = slice_get_read c.args.arena.now.firsts.items _ _ _ refl c.requires.cell c.index-first.ensures in
+    (let at : slice_get c.args.arena.now.firsts c.args.cell.0 ≡ Some c.get-first.result = c.get-first.ensures in
     none_untouched c.args.task.now.grid.now c.args.task.now.request c.args.task.now.horizon known size c.args.arena.now sound c.args.cell c.args.time (rw c.if-first-eq0.true at at) has)
 
 pub returns-then-index-cell-clause-none : goal.returns-then-index-cell-clause-none
 returns-then-index-cell-clause-none c = λ known size sound has.
-    (let at : slice_get c.args.arena.now.firsts.items c.args.cell.0 ≡ Some c.index-first.result.now = slice_get_read c.args.arena.now.firsts.items _ _ _ refl c.requires.cell c.index-first.ensures in
-    let first = suc_of c.args.arena.now.firsts.items c.args.cell.0 c.index-first.result.now at c.if-first-eq0.false in
-    let e : c.index-first.result.now ≡ suc first.0 = same_Some c.index-first.result.now (suc first.0) (sym at ∙ first.1) in
+    (let at : slice_get c.args.arena.now.firsts c.args.cell.0 ≡ Some c.get-first.result = c.get-first.ensures in
+    let first = suc_of c.args.arena.now.firsts c.args.cell.0 c.get-first.result at c.if-first-eq0.false in
+    let e : c.get-first.result ≡ suc first.0 = same_Some c.get-first.result (suc first.0) (sym at ∙ first.1) in
     none_in_block c.args.task.now.grid.now c.args.task.now.request c.args.task.now.horizon known size c.args.arena.now sound c.args.cell c.args.time first.0 c.loop-j.j first.1
     (omega (arith, c.loop-j.auto.j))
     (λ s at' cell.
@@ -62,9 +62,9 @@ loop-j-preserved c = λ i r p low high at inside early. elim (cases_lt i c.loop-
 
 pub returns-clause-none : goal.returns-clause-none
 returns-clause-none c = λ known size sound has.
-    (let at : slice_get c.args.arena.now.firsts.items c.args.cell.0 ≡ Some c.index-first.result.now = slice_get_read c.args.arena.now.firsts.items _ _ _ refl c.requires.cell c.index-first.ensures in
-    let first = suc_of c.args.arena.now.firsts.items c.args.cell.0 c.index-first.result.now at c.if-first-eq0.false in
-    let e : c.index-first.result.now ≡ suc first.0 = same_Some c.index-first.result.now (suc first.0) (sym at ∙ first.1) in
+    (let at : slice_get c.args.arena.now.firsts c.args.cell.0 ≡ Some c.get-first.result = c.get-first.ensures in
+    let first = suc_of c.args.arena.now.firsts c.args.cell.0 c.get-first.result at c.if-first-eq0.false in
+    let e : c.get-first.result ≡ suc first.0 = same_Some c.get-first.result (suc first.0) (sym at ∙ first.1) in
     let len : vec_len c.args.arena.now.states ≡ length c.args.arena.now.states.items = search rules in
     let past : length c.args.arena.now.states.items ≤ c.loop-j.j = omega (arith, c.loop-j-test.false, c.len-j-end.ensures) in
     none_in_block c.args.task.now.grid.now c.args.task.now.request c.args.task.now.horizon known size c.args.arena.now sound c.args.cell c.args.time first.0 c.loop-j.j first.1

@@ -9,13 +9,15 @@ use Rattle.sipp_search.proofs.Lists.{stands_map}
 use Rattle.sipp_search.proofs.Marking.{count-unseen, offered_improves, spots-set}
 use Rattle.sipp_search.proofs.Blocks.{spots_right}
 use Rattle.sipp_search.proofs.Beginning.{nothing_unseen, grown_unseen, unseen_not_final, idle_way, start_too_far, start_taken, begun_way, left_at_start}
+use Rattle.sipp_search.proofs.Serving.{distance_told}
 use Rattle.sipp_search.proofs.begin.begin.Goals as goal
 
 pub returns-then-left-room-clause-way : goal.returns-then-left-room-clause-way
 returns-then-left-room-clause-way g c = λ a x agrees.
     idle_way c.args.task.now.grid.now c.args.task.now.request c.args.task.now.horizon a c.args.arena.now.states.items x (nothing_unseen c.args.arena.now.states.items c.requires.none)
-    (start_too_far c.args.task.now.grid.now c.args.task.now.request c.args.task.now.horizon a c.args.arena.now.states.items c.in-Some.left c.requires.ready.bound
-    (c.requires.ready.distances_right.some c.args.task.now.request.start c.in-Some.left c.in-Some.ensures) (omega (arith, c.in-Some-checked_sub.ensures, c.if-left-room.true)))
+    (start_too_far c.args.task.now.grid.now c.args.task.now.request c.args.task.now.horizon a c.args.arena.now.states.items c.in-Some.left
+    (distance_told c.args.task.now.grid.now c.args.arena.now.distances.goal c.args.task.now.request.goal c.args.task.now.request.start c.in_ok-left.field-0 c.in-Some.left
+    c.requires.sound.goal_is c.in_ok-left.ensures.distance c.in-Some.is) (omega (arith, c.in-Some-checked_sub.ensures, c.if-left-room.true)))
 
 pub returns-in_default-2-clause-none_final : goal.returns-in_default-2-clause-none_final
 returns-in_default-2-clause-none_final g c =
@@ -32,7 +34,7 @@ returns-in_default-2-clause-way g c = λ a x agrees.
     (let none = rw c.in_default-2.is at c.in_ok-first.ensures.none in
     idle_way c.args.task.now.grid.now c.args.task.now.request c.args.task.now.horizon a c.block_of-2.new.arena.states.items x
     (grown_unseen _ _ (grown_unseen _ _ (nothing_unseen c.args.arena.now.states.items c.requires.none) c.in_ok-block_of.ensures.grown) c.in_ok-first.ensures.grown)
-    (λ k free within in_time. absurd (none within.left within.distance)))
+    (λ k free within in_time. absurd (none within.left within.way)))
 
 pub returns-in_default-place_at-clause-none_final : goal.returns-in_default-place_at-clause-none_final
 returns-in_default-place_at-clause-none_final g c =
@@ -67,9 +69,10 @@ offer-requires-clause-key g c = λ s at.
     let cell : s.spot.cell ≡ c.args.task.now.request.start = sym (ap (λ (z : State). z.spot.cell) same) ∙ some.2 in
     let left : c.in-Some.left ≡ s.spot.left =
     left_at_start c.args.task.now.grid.now c.args.task.now.request c.args.task.now.horizon (g.V.CalendarView.known c.block_of-2.new.view) (spots_of c.block_of-2.new.arena.states.items)
-    c.block_of-2.new.arena.firsts.items c.in-Some-place_at.place c.in-Some.left s.spot c.requires.ready.bound c.in_ok-first.ensures.sound.arranged
+    c.block_of-2.new.arena.firsts c.in-Some-place_at.place c.in-Some.left s.spot c.requires.ready.bound c.in_ok-first.ensures.sound.arranged
     (stands_map (λ (z : State). z.spot) c.block_of-2.new.arena.states.items c.in-Some-place_at.place s at) cell
-    (c.requires.ready.distances_right.some c.args.task.now.request.start c.in-Some.left c.in-Some.ensures) in
+    (distance_told c.args.task.now.grid.now c.args.arena.now.distances.goal c.args.task.now.request.goal c.args.task.now.request.start c.in_ok-left.field-0 c.in-Some.left
+    c.requires.sound.goal_is c.in_ok-left.ensures.distance c.in-Some.is) in
     ap (λ (n : ℕ). c.args.task.now.request.depart + n) left)
 
 pub returns-clause-sound : goal.returns-clause-sound
@@ -82,8 +85,11 @@ returns-clause-sound g c =
       paired = ap (λ (z : Queue). z.keys) c.in_ok-offer.ensures.queue;
       bound = ap (λ (z : Queue). z.bound) c.in_ok-offer.ensures.queue ∙ sound.bound;
       count = sound.count;
-      arranged = subst (λ (xs : List Spot). IsArena c.args.task.now.grid.now c.args.task.now.request.goal c.args.task.now.horizon (g.V.CalendarView.known c.block_of-2.new.view) xs c.block_of-2.new.arena.firsts.items)
+      arranged = subst (λ (xs : List Spot). IsArena c.args.task.now.grid.now c.args.task.now.request.goal c.args.task.now.horizon (g.V.CalendarView.known c.block_of-2.new.view) xs c.block_of-2.new.arena.firsts)
           (sym spots) sound.arranged;
+      aimed = sound.aimed;
+      goal_is = sound.goal_is;
+      room_is = sound.room_is;
     }
 
 pub returns-clause-none_final : goal.returns-clause-none_final
@@ -110,9 +116,10 @@ returns-clause-way g c = λ a x agrees.
     let states = c.block_of-2.new.arena.states.items in
     let none = grown_unseen _ _ (grown_unseen _ _ (nothing_unseen c.args.arena.now.states.items c.requires.none) c.in_ok-block_of.ensures.grown) c.in_ok-first.ensures.grown in
     let left : c.in-Some.left ≡ some.0.spot.left =
-    left_at_start terrain q horizon known (spots_of states) c.block_of-2.new.arena.firsts.items c.in-Some-place_at.place c.in-Some.left some.0.spot c.requires.ready.bound c.in_ok-first.ensures.sound.arranged
-    (stands_map (λ (z : State). z.spot) states c.in-Some-place_at.place some.0 some.1) some.2 (c.requires.ready.distances_right.some q.start c.in-Some.left c.in-Some.ensures) in
+    left_at_start terrain q horizon known (spots_of states) c.block_of-2.new.arena.firsts c.in-Some-place_at.place c.in-Some.left some.0.spot c.requires.ready.bound c.in_ok-first.ensures.sound.arranged
+    (stands_map (λ (z : State). z.spot) states c.in-Some-place_at.place some.0 some.1) some.2 (distance_told c.args.task.now.grid.now c.args.arena.now.distances.goal c.args.task.now.request.goal c.args.task.now.request.start c.in_ok-left.field-0 c.in-Some.left
+    c.requires.sound.goal_is c.in_ok-left.ensures.distance c.in-Some.is) in
     rw (c.in_ok-offer.ensures.states some.0 some.1)
     (begun_way terrain q horizon a states x c.in-Some-place_at.place some.0 c.requires.ready.bound none
-    (spots_right terrain q.goal horizon known (spots_of states) c.block_of-2.new.arena.firsts.items q a refl c.in_ok-first.ensures.sound.arranged agrees) some.1 some.2 some.3
+    (spots_right terrain q.goal horizon known (spots_of states) c.block_of-2.new.arena.firsts q a refl c.in_ok-first.ensures.sound.arranged agrees) some.1 some.2 some.3
     (omega (arith, c.in-Some-checked_sub.ensures, c.if-left-room.false))))

@@ -26,30 +26,30 @@ returns-in_default-2-clause-led g c = λ a x agrees arrived way.
 pub reach_into-requires-clause-here : goal.reach_into-requires-clause-here
 reach_into-requires-clause-here g c =
     let of = of_arena c.args.task.now.grid.now c.args.task.now.request.goal c.args.task.now.horizon (g.V.CalendarView.known c.block_of.new.view) (spots_of c.block_of.new.arena.states.items)
-    c.block_of.new.arena.firsts.items c.requires.placed.0 c.args.from c.in_ok-first.ensures.sound.arranged
+    c.block_of.new.arena.firsts c.requires.placed.0 c.args.from c.in_ok-first.ensures.sound.arranged
     (grown_spots c.args.arena.now.states.items c.block_of.new.arena.states.items c.in_ok-first.ensures.grown c.requires.placed.0 c.args.from c.requires.placed.1) in
     rw of.known_is refl
 
 pub reach_into-requires-clause-times : goal.reach_into-requires-clause-times
 reach_into-requires-clause-times g c =
     (of_arena c.args.task.now.grid.now c.args.task.now.request.goal c.args.task.now.horizon (g.V.CalendarView.known c.block_of.new.view) (spots_of c.block_of.new.arena.states.items)
-    c.block_of.new.arena.firsts.items c.requires.placed.0 c.args.from c.in_ok-first.ensures.sound.arranged
+    c.block_of.new.arena.firsts c.requires.placed.0 c.args.from c.in_ok-first.ensures.sound.arranged
     (grown_spots c.args.arena.now.states.items c.block_of.new.arena.states.items c.in_ok-first.ensures.grown c.requires.placed.0 c.args.from c.requires.placed.1)).safe.within
 
 pub reach_into-requires-clause-free : goal.reach_into-requires-clause-free
 reach_into-requires-clause-free g c =
     free_of_arena c.args.task.now.grid.now c.args.task.now.request.goal c.args.task.now.horizon (g.V.CalendarView.known c.block_of.new.view) c.args.from
     (of_arena c.args.task.now.grid.now c.args.task.now.request.goal c.args.task.now.horizon (g.V.CalendarView.known c.block_of.new.view) (spots_of c.block_of.new.arena.states.items)
-    c.block_of.new.arena.firsts.items c.requires.placed.0 c.args.from c.in_ok-first.ensures.sound.arranged
+    c.block_of.new.arena.firsts c.requires.placed.0 c.args.from c.in_ok-first.ensures.sound.arranged
     (grown_spots c.args.arena.now.states.items c.block_of.new.arena.states.items c.in_ok-first.ensures.grown c.requires.placed.0 c.args.from c.requires.placed.1))
 
 pub reach_into-requires-clause-low : goal.reach_into-requires-clause-low
 reach_into-requires-clause-low g c = λ i p at cell.
     (let of = of_arena c.args.task.now.grid.now c.args.task.now.request.goal c.args.task.now.horizon (g.V.CalendarView.known c.block_of.new.view) (spots_of c.block_of.new.arena.states.items)
-    c.block_of.new.arena.firsts.items c.requires.placed.0 c.args.from c.in_ok-first.ensures.sound.arranged
+    c.block_of.new.arena.firsts c.requires.placed.0 c.args.from c.in_ok-first.ensures.sound.arranged
     (grown_spots c.args.arena.now.states.items c.block_of.new.arena.states.items c.in_ok-first.ensures.grown c.requires.placed.0 c.args.from c.requires.placed.1) in
     let there = of_arena c.args.task.now.grid.now c.args.task.now.request.goal c.args.task.now.horizon (g.V.CalendarView.known c.block_of.new.view) (spots_of c.block_of.new.arena.states.items)
-    c.block_of.new.arena.firsts.items i p c.in_ok-first.ensures.sound.arranged at in
+    c.block_of.new.arena.firsts i p c.in_ok-first.ensures.sound.arranged at in
     let far : IsDistance c.args.task.now.grid.now c.args.task.now.request.goal c.in-Some.to p.left =
     subst (λ (z : Cell). IsDistance c.args.task.now.grid.now c.args.task.now.request.goal z p.left) cell there.distance in
     let low : c.args.from.left ≤ p.left + 1 =
@@ -73,12 +73,12 @@ returns-clause-led g c = λ a x agrees arrived way.
     let mid = c.block_of.new.arena.states.items in
     let blocks = c.in_ok-first.ensures.sound.arranged in
     let block = rw c.in-Some-2.is at c.in_ok-first.ensures.block in
-    let of = of_arena terrain q.goal horizon known (spots_of mid) c.block_of.new.arena.firsts.items c.requires.placed.0 c.args.from blocks
+    let of = of_arena terrain q.goal horizon known (spots_of mid) c.block_of.new.arena.firsts c.requires.placed.0 c.args.from blocks
     (grown_spots c.args.arena.now.states.items mid c.in_ok-first.ensures.grown c.requires.placed.0 c.args.from c.requires.placed.1) in
     let source = source_of terrain q horizon a known c.args.from c.args.arrival c.args.side c.in-Some.to block.left c.requires.ready.bound of agrees arrived c.in-Some.ensures.beside block.distance in
     let grown = grown_way terrain q horizon a c.args.arena.now.states.items mid c.args.arena.now.queue.floor x c.in_ok-first.ensures.grown way in
     let led = c.in_ok-reach_into.ensures.led terrain q a x agrees source
-    (spots_right terrain q.goal horizon known (spots_of mid) c.block_of.new.arena.firsts.items q a refl blocks agrees) block c.requires.ready.bound
+    (spots_right terrain q.goal horizon known (spots_of mid) c.block_of.new.arena.firsts q a refl blocks agrees) block c.requires.ready.bound
     (subst (λ (n : ℕ). IsUnderWay terrain q horizon a mid n x) (sym c.in_ok-first.ensures.floor) grown) in (
       subst (λ (n : ℕ). IsUnderWay terrain q horizon a c.reach_into.new.states.items n x) c.in_ok-first.ensures.floor led.0,
       led_only terrain q horizon a c.reach_into.new.states.items c.args.from c.args.arrival c.args.side c.in-Some.to c.in-Some.ensures.beside led.1,

@@ -42,6 +42,7 @@ returns-clause-some c =
       rises = subst (λ (n : ℕ). c.args.arena.now.queue.floor ≤ n) key took.rises;
       states_are = refl;
       firsts_are = refl;
+      distances_are = refl;
       queue_is = took.taken
           ∙ (ap (λ (xs : List (Option ℕ)). record { keys = xs; floor = took.arrival + took.spot.left; bound = c.args.arena.now.queue.bound })
           (took.keys c.in-Queued.arrival ∙ ap (λ (z : Spot). keys_of (set c.args.arena.now.states.items c.in-Some.id (final z c.in-Queued.arrival))) spot)

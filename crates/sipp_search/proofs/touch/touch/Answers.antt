@@ -1,5 +1,5 @@
-use Rattle.std.proofs.Common.{rules, arith, subst, sym, refl, ◌≡◌, ◌<◌, ◌+◌, suc, ℕ, length, Some, slice_get, set}
-use Rattle.std.proofs.lemmas.Option.{slice_get_read}
+use Rattle.std.proofs.Common.{rules, arith, subst, sym, ◌≡◌, ◌<◌, ◌+◌, suc, ℕ, length, set}
+use Rattle.std.proofs.lemmas.Option.{slice_get_within}
 use Rattle.std.proofs.lemmas.List.{length-map}
 use Rattle.std.specs.Prelude.{List}
 use Rattle.sipp_search.specs.declared.states.Spot.{Spot}
@@ -7,31 +7,24 @@ use Rattle.sipp_search.specs.declared.states.State.{State}
 use Rattle.sipp_search.specs.Marks.{spots_of}
 use Rattle.sipp_search.specs.Arena.{IsArena}
 use Rattle.sipp_search.proofs.Lists.{slice_get-set_at}
-use Rattle.sipp_search.proofs.Blocks.{arena_touched, spots-added, suc_of}
+use Rattle.sipp_search.proofs.Blocks.{arena_touched, spots-added}
 use Rattle.sipp_search.proofs.touch.touch.Goals as goal
-
-pub returns-then-index-ne0-clause-touched : goal.returns-then-index-ne0-clause-touched
-returns-then-index-ne0-clause-touched g c =
-    let within : c.args.cell.0 < length c.args.arena.now.firsts.items = omega (arith, c.requires.cell, c.requires.count) in
-    suc_of c.args.arena.now.firsts.items c.args.cell.0 c.index.result.now (slice_get_read c.args.arena.now.firsts.items _ _ _ refl within c.index.ensures) c.if-index-ne0.true
 
 pub returns-clause-touched : goal.returns-clause-touched
 returns-clause-touched g c =
-    let within : c.args.cell.0 < length c.args.arena.now.firsts.items = omega (arith, c.requires.cell, c.requires.count) in
+    let within : c.args.cell.0 < length c.args.arena.now.firsts = slice_get_within c.args.arena.now.firsts c.args.cell.0 0 c.requires.untouched in
     let e : c.len-first.result + 1 ≡ suc c.len-first.result = omega arith in
-    (c.len-first.result, rw (← e) (slice_get-set_at c.args.arena.now.firsts.items c.args.cell.0 (c.len-first.result + 1) within))
+    rw (c.set.ensures, ← e) (slice_get-set_at c.args.arena.now.firsts c.args.cell.0 (c.len-first.result + 1) within)
 
 pub returns-clause-arena : goal.returns-clause-arena
 returns-clause-arena g c = λ t goal arena distance.
-    (let within : c.args.cell.0 < length c.args.arena.now.firsts.items = omega (arith, c.requires.cell, c.requires.count) in
-    let at : slice_get c.args.arena.now.firsts.items c.args.cell.0 ≡ Some c.index.result.now = slice_get_read c.args.arena.now.firsts.items _ _ _ refl within c.index.ensures in
-    let untouched : slice_get c.args.arena.now.firsts.items c.args.cell.0 ≡ Some 0 = rw c.if-index-ne0.false at at in
-    let added = c.in_ok-add_states.ensures.states in
+    (let added = c.in_ok-add_states.ensures.states in
     let len : c.len-first.result ≡ length c.args.arena.now.states.items = search rules in
     let first : suc (length (spots_of c.args.arena.now.states.items)) ≡ c.len-first.result + 1 = omega (arith, length-map c.args.arena.now.states.items (λ (z : State). z.spot)) in
     let whole = arena_touched t goal c.args.horizon (g.V.CalendarView.known c.args.view.now) (g.V.CalendarView.known c.load.new.self) (spots_of c.args.arena.now.states.items)
-    c.args.arena.now.firsts.items c.args.cell c.args.left c.calendar.result.now added.0 arena untouched
+    c.args.arena.now.firsts c.args.cell c.args.left c.calendar.result.now added.0 arena c.requires.untouched
     c.in_ok-load.ensures.others c.in_ok-load.ensures.kept c.calendar.ensures added.1 distance in
-    subst (λ (n : ℕ). IsArena t goal c.args.horizon (g.V.CalendarView.known c.load.new.self) (spots_of c.add_states.new.states.items) (set c.args.arena.now.firsts.items c.args.cell.0 n)) first
-    (subst (λ (xs : List Spot). IsArena t goal c.args.horizon (g.V.CalendarView.known c.load.new.self) xs (set c.args.arena.now.firsts.items c.args.cell.0 (suc (length (spots_of c.args.arena.now.states.items)))))
-    (sym (spots-added c.args.arena.now.states.items c.add_states.new.states.items c.args.cell c.args.left added.0 added.2)) whole))
+    subst (λ (xs : List ℕ). IsArena t goal c.args.horizon (g.V.CalendarView.known c.load.new.self) (spots_of c.add_states.new.states.items) xs) (sym c.set.ensures)
+    (subst (λ (n : ℕ). IsArena t goal c.args.horizon (g.V.CalendarView.known c.load.new.self) (spots_of c.add_states.new.states.items) (set c.args.arena.now.firsts c.args.cell.0 n)) first
+    (subst (λ (xs : List Spot). IsArena t goal c.args.horizon (g.V.CalendarView.known c.load.new.self) xs (set c.args.arena.now.firsts c.args.cell.0 (suc (length (spots_of c.args.arena.now.states.items)))))
+    (sym (spots-added c.args.arena.now.states.items c.add_states.new.states.items c.args.cell c.args.left added.0 added.2)) whole)))

@@ -2,7 +2,7 @@ use Rattle.std.proofs.Common.{◌≡◌, ℕ, List, Option, [], ◌-◌, length,
 use Rattle.bucket_queue.specs.declared.buckets.Spot.{Spot}
 use Rattle.bucket_queue.specs.Queue.{Queue}
 use Rattle.bucket_queue.specs.Pairing.{spot_keys}
-use Rattle.bucket_queue.proofs.QueueLemmas.{new_queue, all_empty}
+use Rattle.bucket_queue.proofs.QueueLemmas.{new_queue, all_empty, none_below}
 use Rattle.bucket_queue.proofs.queue.BucketQueue.new.Goals as goal
 
 made : (spots : List (Option Spot)) (count bound : ℕ) → spots ≡ [] → count - 1 ≡ bound
@@ -10,9 +10,10 @@ made : (spots : List (Option Spot)) (count bound : ℕ) → spots ≡ [] → cou
 made spots count bound none last = rw (none, last) refl
 
 pub invariant_of-result : goal.invariant_of-result
-invariant_of-result c =
-    new_queue (record { by_key = c.loop.by_key; spots = c.new-2.result }) c.new-2.ensures.items c.loop.invariant.empty
-    (omega (arith, c.loop.invariant.count, c.loop-test.false))
+invariant_of-result c = (
+  new_queue (record { by_key = c.loop.by_key; spots = c.new-2.result }) c.new-2.ensures.items c.loop.invariant.empty (omega (arith, c.loop.invariant.count, c.loop-test.false)),
+  none_below (record { by_key = c.loop.by_key; spots = c.new-2.result }) c.new-2.ensures.items,
+)
 
 pub loop-preserved : goal.loop-preserved
 loop-preserved c = record {

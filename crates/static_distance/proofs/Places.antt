@@ -1,0 +1,85 @@
+-- How far cells beside each other are from a place.
+use Rattle.std.proofs.Common.{◌≡◌, ℕ, ◌+◌, ◌/◌, ◌%◌, ◌<◌, ◌≤◌, Bool, true, false, nat_lt, refl, ap, ◌∙◌, arith}
+use Rattle.std.specs.Bool.{OnTrue, OnFalse}
+use Rattle.std.proofs.lemmas.Nat.{mod-mul-add, div-mul-add}
+use Rattle.std.proofs.lemmas.Bool.{ltb-true, ltb-false}
+use Rattle.fleet_base.specs.declared.grid.Cell.{Cell}
+use Rattle.fleet_base.specs.declared.grid.Side.{Side}
+use Rattle.fleet_base.specs.declared.grid.Side.TheVariants.{Up, Left, Right, Down}
+use Rattle.fleet_base.specs.Terrain.{Terrain, IsAt, IsBeside}
+use Rattle.static_distance.specs.declared.place.Place.{Place}
+use Rattle.static_distance.specs.Levels.{IsPlaceOf, gap, apart}
+
+column_at : (g : Terrain) (c : Cell) (x y : ℕ) → IsAt g c x y → c.0 % g.width ≡ x
+column_at g c x y (inside, high, is) = rw is (mod-mul-add y g.width x inside)
+
+row_at : (g : Terrain) (c : Cell) (x y : ℕ) → IsAt g c x y → c.0 / g.width ≡ y
+row_at g c x y (inside, high, is) = rw is (div-mul-add y g.width x inside)
+
+-- the distance to a place from column x and row y
+apart_at : (g : Terrain) (toward : Place) (c : Cell) (x y : ℕ) → IsAt g c x y → apart g toward c ≡ gap x toward.column + gap y toward.row
+apart_at g toward c x y at =
+    ap (λ (n : ℕ). gap n toward.column + gap (c.0 / g.width) toward.row) (column_at g c x y at) ∙ ap (λ (n : ℕ). gap x toward.column + gap n toward.row) (row_at g c x y at)
+
+module _ (g : Terrain) (toward place : Place) (c n : Cell) (is : IsPlaceOf g c place) where
+  pub closer_up : IsBeside g Up c n → toward.row < place.row → apart g toward n + 1 ≡ apart g toward c
+  closer_up (x, y, at, to) less =
+      let row : place.row ≡ y + 1 = is.1 ∙ row_at g c x (y + 1) at in
+      omega (arith, apart_at g toward c x (y + 1) at, apart_at g toward n x y to)
+
+  pub farther_up : IsBeside g Up c n → place.row ≤ toward.row → apart g toward n ≡ apart g toward c + 1
+  farther_up (x, y, at, to) more =
+      let row : place.row ≡ y + 1 = is.1 ∙ row_at g c x (y + 1) at in
+      omega (arith, apart_at g toward c x (y + 1) at, apart_at g toward n x y to)
+
+  pub closer_left : IsBeside g Left c n → toward.column < place.column → apart g toward n + 1 ≡ apart g toward c
+  closer_left (x, y, at, to) less =
+      let column : place.column ≡ x + 1 = is.0 ∙ column_at g c (x + 1) y at in
+      omega (arith, apart_at g toward c (x + 1) y at, apart_at g toward n x y to)
+
+  pub farther_left : IsBeside g Left c n → place.column ≤ toward.column → apart g toward n ≡ apart g toward c + 1
+  farther_left (x, y, at, to) more =
+      let column : place.column ≡ x + 1 = is.0 ∙ column_at g c (x + 1) y at in
+      omega (arith, apart_at g toward c (x + 1) y at, apart_at g toward n x y to)
+
+  pub closer_right : IsBeside g Right c n → place.column < toward.column → apart g toward n + 1 ≡ apart g toward c
+  closer_right (x, y, at, to) less =
+      let column : place.column ≡ x = is.0 ∙ column_at g c x y at in
+      omega (arith, apart_at g toward c x y at, apart_at g toward n (x + 1) y to)
+
+  pub farther_right : IsBeside g Right c n → toward.column ≤ place.column → apart g toward n ≡ apart g toward c + 1
+  farther_right (x, y, at, to) more =
+      let column : place.column ≡ x = is.0 ∙ column_at g c x y at in
+      omega (arith, apart_at g toward c x y at, apart_at g toward n (x + 1) y to)
+
+  pub closer_down : IsBeside g Down c n → place.row < toward.row → apart g toward n + 1 ≡ apart g toward c
+  closer_down (x, y, at, to) less =
+      let row : place.row ≡ y = is.1 ∙ row_at g c x y at in
+      omega (arith, apart_at g toward c x y at, apart_at g toward n x (y + 1) to)
+
+  pub farther_down : IsBeside g Down c n → toward.row ≤ place.row → apart g toward n ≡ apart g toward c + 1
+  farther_down (x, y, at, to) more =
+      let row : place.row ≡ y = is.1 ∙ row_at g c x y at in
+      omega (arith, apart_at g toward c x y at, apart_at g toward n x (y + 1) to)
+
+-- a move changes the distance to a place by one at most
+pub low_apart : (g : Terrain) (toward : Place) (side : Side) (c n : Cell) → IsBeside g side c n → apart g toward n ≤ apart g toward c + 1
+low_apart g toward Up c n (x, y, at, to) = omega (arith, apart_at g toward c x (y + 1) at, apart_at g toward n x y to)
+low_apart g toward Left c n (x, y, at, to) = omega (arith, apart_at g toward c (x + 1) y at, apart_at g toward n x y to)
+low_apart g toward Right c n (x, y, at, to) = omega (arith, apart_at g toward c x y at, apart_at g toward n (x + 1) y to)
+low_apart g toward Down c n (x, y, at, to) = omega (arith, apart_at g toward c x y at, apart_at g toward n x (y + 1) to)
+
+-- what follows from a comparison
+pub on_less : (a b : ℕ) (P : Type 0) → (a < b → P) → OnTrue (nat_lt a b) P
+on_less a b P then_less = on (nat_lt a b) refl
+  where
+    on : (v : Bool) → nat_lt a b ≡ v → OnTrue v P
+    on true e = then_less (ltb-true a b e)
+    on false e = tt
+
+pub on_not_less : (a b : ℕ) (P : Type 0) → (b ≤ a → P) → OnFalse (nat_lt a b) P
+on_not_less a b P then_more = on (nat_lt a b) refl
+  where
+    on : (v : Bool) → nat_lt a b ≡ v → OnFalse v P
+    on true e = tt
+    on false e = then_more (ltb-false a b e)
