@@ -1,0 +1,5 @@
+mod LineKeys
+mod Numbering
+mod PrintLemmas
+mod TextLemmas
+mod TestLemmas

@@ -2,3 +2,4 @@ pub mod Moves
 pub mod Totals
 pub mod Lines
 pub mod Printing
+pub mod Places

@@ -5,6 +5,7 @@ use Rattle.fleet_base.specs.Terrain.{Terrain}
 use Rattle.fleet_base.specs.History.{IsLegal}
 use Rattle.fleet_base.specs.Journal.{IsInOrder}
 use Rattle.order_text.specs.declared.lane.Lane.{Lane}
+use Rattle.order_text.specs.Lanes.{AreLanes}
 use Rattle.lane_runs.specs.declared.answer.Answer.{Answer}
 use Rattle.lane_runs.specs.declared.answer.Answer.TheVariants.{Gone}
 use Rattle.lane_runs.specs.Answers.{entries_made, order_of}
@@ -27,6 +28,13 @@ pub record ArePrinted (answers printed : List Answer) : Type 0 where
   pub same : IsPermutation answers printed
   pub in_order : IsInOrder (entries_made printed)
   pub gone : GoneStandBehind printed
+
+-- the answers of a run over some lanes
+pub record AreOfRun (answers : List Answer) : Type 0 where
+  pub cells : ℕ
+  pub lanes : List Lane
+  pub are : AreLanes cells lanes
+  pub run : IsRun lanes answers
 
 -- The text is the journal of a run over the lanes: a legal history that is its own journal and keeps the lanes, a line
 -- for each order.

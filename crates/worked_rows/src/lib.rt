@@ -1,7 +1,8 @@
 // The worked rows: whole calls of the program with the texts and the statuses that they must give.
 //
 // They are tests, in a crate of their own above all others, so that no large crate is proved twice for its tests.
-// `calling` runs the top call in memory; each other module is a group of rows.
+// `calling` runs the top call in memory; `layers` is a yardstick of the search, from the definitions alone, and `searches`
+// compares the two; each other module is a group of rows.
 #![tactic(auto)]
 
 mod calling;
@@ -12,8 +13,12 @@ mod generated;
 #[cfg(test)]
 mod journals;
 #[cfg(test)]
+mod layers;
+#[cfg(test)]
 mod maps;
 #[cfg(test)]
 mod routes;
+#[cfg(test)]
+mod searches;
 
 pub use calling::{CORRIDOR, Ended, Failing, Files, NOTHING_FAILS, ROOM, call, call_on, sink};

@@ -1,0 +1,10 @@
+pub mod TryLemmas
+pub mod LaneLemmas
+pub mod LiveLemmas
+pub mod WorkLemmas
+pub mod CrewLemmas
+pub mod StandLemmas
+pub mod PlaceLemmas
+pub mod RunLemmas
+pub mod PoolLemmas
+pub mod IdLemmas

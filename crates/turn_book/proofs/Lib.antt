@@ -1,0 +1,9 @@
+pub mod Totals
+pub mod Knowing
+pub mod Keeping
+pub mod Histories
+pub mod LiveStamps
+pub mod Answering
+pub mod Turning
+pub mod Heeding
+pub mod Openings

@@ -1,0 +1,4 @@
+use Rattle.turn_book.proofs.steps.TurnBook.answer.Given as goal
+
+abbrev pub ghosts-give : goal.ghosts-give
+ghosts-give a = record { more = a._entries.now; full = a._full }
