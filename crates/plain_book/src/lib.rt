@@ -15,3 +15,4 @@ mod tests;
 
 pub use book::{NotLive, PlainBook};
 pub use fleet_base::Live;
+pub use routes::copy_of;

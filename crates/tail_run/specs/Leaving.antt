@@ -1,5 +1,5 @@
 -- What the answers of a run leave live, and how far its stamps and eras have come.
-use Rattle.std.specs.Prelude.{ℕ, List, length, Option, Some, None, filter, fold, max}
+use Rattle.std.specs.Prelude.{ℕ, List, length, Option, Some, None, filter, fold, max, ◌≡◌, if◌then◌else◌}
 use Rattle.std.proofs.Common.{not}
 use Rattle.std.specs.List.{list_any, filter_map}
 use Rattle.fleet_base.specs.declared.request.RouteId.{RouteId}
@@ -48,3 +48,14 @@ top_stamp answers = fold (λ top a. max top (stamp_in a)) 0 answers
 -- how many routes the answers ended
 abbrev pub ended_count : List Answer → ℕ
 ended_count answers = length (ended_ids answers)
+
+-- a list of keys has these ids and no others
+abbrev pub HasIds : List RouteId → List RouteId → Type 0
+HasIds keys ids = (id : RouteId) → list_any (λ key. same_id key id) keys ≡ list_any (λ e. same_id id e) ids
+
+-- the route that an answer made, unless it is one of these
+abbrev pub route_unless : List RouteId → Answer → Option Live
+route_unless ended (Made order (E.Commit id era q w)) = if list_any (λ key. same_id key id) ended then None else Some (record { id = id; walk = w })
+route_unless ended (Made order (E.Cancel id era)) = None
+route_unless ended (Made order (E.NoRoute stamp caller era q)) = None
+route_unless ended (Gone order target) = None

@@ -1,2 +1,4 @@
 pub mod Leaving
+pub mod Ids
 pub mod Finished
+pub mod Tails

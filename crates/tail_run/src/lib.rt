@@ -1,9 +1,11 @@
-ghost use Rattle.std.specs.Prelude.{◌≡◌};
-// The rest of a run: the orders that several workers left, answered by one.
+// The rest of a run: the orders that several workers left are answered on one thread, in a book that goes on from the live
+// routes of the answers.
+//
+// Its one contract: `finish` answers each order that was left, once, and all answers together are a journal (`IsFinished`).
+// `leaving` has what the answers leave live, `ids` the routes that orders were given, `lane` the rest of one lane, `finish`
+// the whole.
 #![tactic(auto)]
 
-pub fn nothing_yet() -> u32
-    ensures { result ≡ 0 }
-{
-    0
-}
+mod ids;
+mod lane;
+mod leaving;
