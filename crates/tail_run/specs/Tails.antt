@@ -1,11 +1,11 @@
 -- A tail while it goes on.
-use Rattle.std.specs.Prelude.{◌≡◌, ℕ, ◌+◌, ◌<◌, ◌≤◌, ◌⊎◌, List, [], ◌∷◌, ◌++◌, length, All, Option, Some, None, IfSome, fold, slice_get, drop, IsPermutation}
+use Rattle.std.specs.Prelude.{◌≡◌, ℕ, ◌+◌, ◌<◌, ◌≤◌, ◌⊎◌, List, [], ◌∷◌, ◌++◌, length, All, Option, Some, None, IfSome, fold, slice_get, IsPermutation}
 use Rattle.fleet_base.specs.declared.request.RouteId.{RouteId}
 use Rattle.fleet_base.specs.declared.request.Request.{Request}
 use Rattle.fleet_base.specs.declared.request.Entry.{Entry}
 use Rattle.fleet_base.specs.Terrain.{Terrain}
 use Rattle.fleet_base.specs.History.{Past, past_of, followed_by, reply_of, IsLive, IsStrong, IsStronglyAllowed, EachFollows}
-use Rattle.fleet_base.specs.Journal.{IsInOrder}
+use Rattle.fleet_base.specs.Journal.{Precedes, IsInOrder}
 use Rattle.order_text.specs.declared.order.Order.{Order}
 use Rattle.order_text.specs.declared.order.Order.TheVariants.{Plan, Cancel}
 use Rattle.order_text.specs.declared.lane.Lane.{Lane}
@@ -21,8 +21,12 @@ use Rattle.plain_book.specs.History.{AnswersBook}
 use Rattle.plain_run.specs.Underway.{IsBehind}
 use Rattle.planner_pool.specs.Runs.{IsRunUpTo}
 use Rattle.tail_run.specs.declared.lane.Tail.{Tail}
-use Rattle.tail_run.specs.Ids.{noted, ids_of}
+use Rattle.tail_run.specs.Ids.{noted, ids_of, AreIdsOf}
 use Rattle.tail_run.specs.Finished.{IsOfLeft}
+
+-- a reply has this caller
+abbrev pub IsReplyBy : ℕ → Entry → Type 0
+IsReplyBy caller e = IfSome (reply_of e) (λ id. id.caller ≡ caller)
 
 -- ---- one order
 
@@ -63,3 +67,58 @@ pub record HasEnded (number target : ℕ) (old new : Tail) : Type 0 where
 abbrev pub AnswersOne : ℕ → ℕ → Order → Tail → Tail → Type 0
 AnswersOne caller number (Plan q) old new = HasPlanned caller number q old new
 AnswersOne caller number (Cancel target) old new = HasGone number target old new ⊎ HasEnded number target old new
+
+-- ---- one lane
+
+-- the lane has these answers to its first orders, of which the first without one has this number
+pub record IsStart (lane : Lane) (xs : List Answer) (from : ℕ) (t : Tail) : Type 0 where
+  pub answering : AreBeingAnswered lane.first lane.orders xs t.book.stamp (λ id. IsLive id t.book.routes)
+  pub ids : AreIdsOf lane xs t.ids.items
+  pub place : from ≡ lane.first + length xs
+
+-- The lane, of which these answers were there, has these more. The book may have come to what it is by their entries, and
+-- what was behind it stands before them in the journal. The routes of other lanes that were live still are.
+pub record GoesOn (caller : ℕ) (lane : Lane) (xs : List Answer) (old : Tail) (more : List Answer) (new : Tail) : Type 0 where
+  pub answers : new.answers.items ≡ old.answers.items ++ more
+  pub ids : new.ids.items ≡ fold noted old.ids.items more
+  pub answering : AreBeingAnswered lane.first lane.orders (xs ++ more) new.book.stamp (λ id. IsLive id new.book.routes)
+  pub others : (id : RouteId) → IsLive id old.book.routes → ((j : ℕ) → ¬ (Committed (xs ++ more) j id)) → IsLive id new.book.routes
+  pub same : IsOnSameGrid old.book new.book
+  pub follows : (p : Past) → LeadsTo p old.book → EachFollows (IsStronglyAllowed old.book.grid old.book.horizon) p (entries_made more) × LeadsTo (fold followed_by p (entries_made more)) new.book
+  pub by : All (IsReplyBy caller) (entries_made more)
+  pub in_order : IsInOrder (entries_made more)
+  pub before : (x : Entry) → IsBehind old.book x → All (Precedes x) (entries_made more)
+  pub behind : All (IsBehind new.book) (entries_made more)
+  pub eras : (old.book.era ≤ new.book.era) × (new.book.era ≤ old.book.era + length more)
+  pub stamps : (old.book.stamp ≤ new.book.stamp) × (new.book.stamp ≤ old.book.stamp + length more)
+
+-- the lane has come to the order at this place
+pub record IsAtPlace (caller : ℕ) (lane : Lane) (xs : List Answer) (old : Tail) (place : ℕ) (new : Tail) : Type 0 where
+  pub more : List Answer
+  pub goes : GoesOn caller lane xs old more new
+  pub ids : AreIdsOf lane (xs ++ more) new.ids.items
+  pub at : length xs + length more ≡ place
+
+-- ---- all that were left
+
+-- The tail has come so far that these lanes are still left: the entries of all answers are a strong history that leads to the
+-- book, and so on for each lane.
+pub record IsGoing (g : Terrain) (horizon caller : ℕ) (lanes : List Lane) (made : List Answer) (all left : List Left) (t : Tail) : Type 0 where
+  pub by_lane : List (List Answer)
+  pub list : List Entry
+  pub tail : List Answer
+  pub grid : t.book.grid ≡ g
+  pub horizon_is : t.book.horizon ≡ horizon
+  pub answers_are : t.answers.items ≡ made ++ tail
+  pub entries : IsPermutation (entries_made made) list
+  pub strong : IsStrong g horizon (list ++ entries_made tail)
+  pub leads : LeadsTo (past_of (list ++ entries_made tail)) t.book
+  pub run : IsRunUpTo lanes by_lane t.answers.items left
+  pub each : (k : ℕ) (lane : Lane) (xs : List Answer) → slice_get lanes k ≡ Some lane → slice_get by_lane k ≡ Some xs → AreBeingAnswered lane.first lane.orders xs t.book.stamp (λ id. IsLive id t.book.routes)
+  pub in_order : (k : ℕ) (xs : List Answer) → slice_get by_lane k ≡ Some xs → IsInOrder (entries_made xs)
+  pub behind : All (IsBehind t.book) (list ++ entries_made tail)
+  pub by : All (IsReplyBy caller) (entries_made tail)
+  pub of_left : All (λ a. IsOfLeft lanes all (order_of a)) tail
+  pub ids : t.ids.items ≡ ids_of (length (all_orders lanes)) t.answers.items
+  pub stamps : t.book.stamp ≤ length t.answers.items
+  pub eras : t.book.era ≤ length t.answers.items

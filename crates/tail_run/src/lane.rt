@@ -1,10 +1,12 @@
-ghost use Rattle.std.specs.Prelude.{◌≡◌, ◌<◌, ◌≤◌, length, OnOk};
+ghost use Rattle.std.specs.Prelude.{◌≡◌, ◌<◌, ◌≤◌, List, length, OnOk};
+ghost use Rattle.order_text.specs.Lanes.{IsLane, after_lane};
+ghost use Rattle.lane_runs.specs.declared.answer.Answer.{Answer as AnAnswer};
 ghost use Rattle.fleet_base.specs.History.{IsLive};
 ghost use Rattle.lane_runs.specs.Answers.{order_of};
 ghost use Rattle.plain_book.specs.BookState.{IsOnSameGrid};
 ghost use Rattle.plain_book.specs.Replies.{EndsRoute};
 ghost use Rattle.plain_book.specs.History.{AnswersBook};
-ghost use Rattle.tail_run.specs.Tails.{MayBeAnswered, HasKept, AnswersOne};
+ghost use Rattle.tail_run.specs.Tails.{MayBeAnswered, HasKept, AnswersOne, IsStart, IsAtPlace};
 
 use crate::ids::note_id;
 use fleet_base::{Entry, Memory, RouteId};
@@ -82,4 +84,19 @@ fn answer_order(tail: &mut Tail, caller: u32, number: u32, order: Order) -> Resu
             }
         },
     }
+}
+
+/// Answers the orders of a lane from that number on, in their order.
+pub fn finish_lane(tail: &mut Tail, caller: u32, lane: &Lane, from: u32) -> Result<(), Memory>
+    requires lane { IsLane (length tail.old.book.grid.cells) lane.now × (after_lane lane.now ≤ length tail.old.ids.items) }
+    requires few { (after_lane lane.now ≤ 32767) × (tail.old.book.stamp ≤ 32767) × (tail.old.book.era ≤ 32767) }
+    requires start { (xs : List AnAnswer) × IsStart lane.now xs from tail.old }
+    ensures { OnOk result ((xs : List AnAnswer) → IsStart lane.now xs from tail.old → IsAtPlace caller lane.now xs tail.old (length lane.now.orders) tail.new) }
+{
+    let orders = lane.orders.as_slice();
+    let first = (from - lane.first) as usize;
+    for place in first..orders.len() {
+        answer_order(tail, caller, lane.first + place as u32, orders[place])?;
+    }
+    Ok(())
 }
