@@ -1,5 +1,5 @@
 mod LineKeys
-mod Numbering
+pub mod Numbering
 mod PrintLemmas
 mod TextLemmas
 mod TestLemmas

@@ -1,2 +1,4 @@
 pub mod JournalLemmas
 pub mod LeavingLemmas
+pub mod KeepingLemmas
+pub mod PrintedLemmas
