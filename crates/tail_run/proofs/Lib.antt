@@ -2,3 +2,5 @@ pub mod JournalLemmas
 pub mod LeavingLemmas
 pub mod KeepingLemmas
 pub mod PrintedLemmas
+pub mod TailSteps
+pub mod LaneSteps
