@@ -1,2 +1,3 @@
 pub mod JournalLemmas
 pub mod LeavingLemmas
+pub mod LoopLemmas
