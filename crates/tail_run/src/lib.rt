@@ -9,3 +9,5 @@
 mod ids;
 mod lane;
 mod leaving;
+#[cfg(test)]
+mod tests;
