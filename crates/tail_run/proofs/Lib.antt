@@ -2,3 +2,4 @@ pub mod JournalLemmas
 pub mod LeavingLemmas
 pub mod KeepingLemmas
 pub mod PrintedLemmas
+pub mod GivenLemmas

@@ -1,6 +1,9 @@
-ghost use Rattle.std.specs.Prelude.{◌≤◌, length, IfOk, IsPermutation};
+ghost use Rattle.std.specs.Prelude.{◌≡◌, ℕ, ◌≤◌, List, length, IfOk, IsPermutation};
 ghost use Rattle.order_text.specs.Lanes.{AreLanes};
 ghost use Rattle.tail_run.specs.Finished.{HasBegun, IsFinished};
+ghost use Rattle.fleet_base.specs.Terrain.{Terrain};
+ghost use Rattle.lane_runs.specs.declared.answer.Left.{Left as ALeft};
+ghost use Rattle.tail_run.specs.declared.lane.Tail.{Tail as ATail};
 ghost use Rattle.tail_run.specs.Tails.{IsGoing};
 
 use crate::ids::ids_given;
@@ -22,8 +25,8 @@ fn begin(
 ) -> Result<Tail, Memory>
     requires horizon { (1 ≤ horizon) × (horizon ≤ 8000) }
     requires lanes { AreLanes (length grid.cells) lanes.now }
-    requires begun { (left : List Left) × HasBegun grid horizon lanes.now made.items left }
-    ensures { IfOk result (λ tail. (caller : ℕ) (left all : List Left) → HasBegun grid horizon lanes.now made.items left → IsPermutation left all → IsGoing grid horizon caller lanes.now made.items all all tail) }
+    requires begun { (left : List ALeft) × HasBegun grid horizon lanes.now made.items left }
+    ensures { IfOk result (λ tail. (caller : ℕ) (left all : List ALeft) → HasBegun grid horizon lanes.now made.items left → IsPermutation left all → IsGoing grid horizon caller lanes.now made.items all all tail) }
 {
     let routes = live_after(alloc, &made)?;
     let (stamp, era) = (top_stamp(&made), ended_count(&made));
