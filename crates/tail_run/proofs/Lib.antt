@@ -3,3 +3,5 @@ pub mod LeavingLemmas
 pub mod KeepingLemmas
 pub mod PrintedLemmas
 pub mod GivenLemmas
+pub mod BehindLemmas
+pub mod GoingLemmas

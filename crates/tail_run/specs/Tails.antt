@@ -1,5 +1,5 @@
 -- A tail while it goes on.
-use Rattle.std.specs.Prelude.{◌≡◌, ℕ, ◌+◌, ◌<◌, ◌≤◌, ◌⊎◌, List, [], ◌∷◌, ◌++◌, length, All, Option, Some, None, IfSome, fold, slice_get, IsPermutation}
+use Rattle.std.specs.Prelude.{◌≡◌, ℕ, ◌+◌, ◌<◌, ◌≤◌, ◌⊎◌, List, [], ◌∷◌, ◌++◌, length, All, Contains, Option, Some, None, IfSome, fold, slice_get, IsPermutation}
 use Rattle.fleet_base.specs.declared.request.RouteId.{RouteId}
 use Rattle.fleet_base.specs.declared.request.Request.{Request}
 use Rattle.fleet_base.specs.declared.request.Entry.{Entry}
@@ -114,6 +114,7 @@ pub record IsGoing (g : Terrain) (horizon caller : ℕ) (lanes : List Lane) (mad
   pub strong : IsStrong g horizon (list ++ entries_made tail)
   pub leads : LeadsTo (past_of (list ++ entries_made tail)) t.book
   pub run : IsRunUpTo lanes by_lane t.answers.items left
+  pub among : (l : Left) → Contains left l → Contains all l
   pub each : (k : ℕ) (lane : Lane) (xs : List Answer) → slice_get lanes k ≡ Some lane → slice_get by_lane k ≡ Some xs → AreBeingAnswered lane.first lane.orders xs t.book.stamp (λ id. IsLive id t.book.routes)
   pub in_order : (k : ℕ) (xs : List Answer) → slice_get by_lane k ≡ Some xs → IsInOrder (entries_made xs)
   pub behind : All (IsBehind t.book) (list ++ entries_made tail)
