@@ -5,3 +5,4 @@ pub mod PrintedLemmas
 pub mod GivenLemmas
 pub mod BehindLemmas
 pub mod GoingLemmas
+pub mod LoopLemmas

@@ -123,3 +123,9 @@ pub record IsGoing (g : Terrain) (horizon caller : ℕ) (lanes : List Lane) (mad
   pub ids : t.ids.items ≡ ids_of (length (all_orders lanes)) t.answers.items
   pub stamps : t.book.stamp ≤ length t.answers.items
   pub eras : t.book.era ≤ length t.answers.items
+
+-- no lane is left of a tail that has come to these answers
+pub record AreAtEnd (g : Terrain) (horizon caller : ℕ) (lanes : List Lane) (made : List Answer) (all : List Left) (answers : List Answer) : Type 0 where
+  pub tail : Tail
+  pub going : IsGoing g horizon caller lanes made all [] tail
+  pub answers_are : answers ≡ tail.answers.items

@@ -2,9 +2,9 @@ ghost use Rattle.std.specs.Prelude.{◌≡◌, ℕ, ◌≤◌, List, length, IfO
 ghost use Rattle.order_text.specs.Lanes.{AreLanes};
 ghost use Rattle.tail_run.specs.Finished.{HasBegun, IsFinished};
 ghost use Rattle.fleet_base.specs.Terrain.{Terrain};
+ghost use Rattle.lane_runs.specs.declared.answer.Answer.{Answer as AnAnswer};
 ghost use Rattle.lane_runs.specs.declared.answer.Left.{Left as ALeft};
-ghost use Rattle.tail_run.specs.declared.lane.Tail.{Tail as ATail};
-ghost use Rattle.tail_run.specs.Tails.{IsGoing};
+ghost use Rattle.tail_run.specs.Tails.{IsGoing, AreAtEnd};
 
 use crate::ids::ids_given;
 use crate::lane::{Tail, finish_lane};
@@ -55,6 +55,9 @@ fn finish_lanes(
     lanes: &[Lane],
     left: &[Left],
 ) -> Result<Vec<Answer>, Memory>
+    requires lanes { AreLanes (length tail.book.grid.cells) lanes.now }
+    requires going { (g : Terrain) × (horizon : ℕ) × (made : List AnAnswer) × (all : List ALeft) × IsGoing g horizon caller lanes.now made all left.now tail }
+    ensures { IfOk result (λ answers. (g : Terrain) (horizon : ℕ) (made : List AnAnswer) (all : List ALeft) → IsGoing g horizon caller lanes.now made all left.now tail → AreAtEnd g horizon caller lanes.now made all answers.items) }
 {
     for one in left {
         finish_lane(&mut tail, caller, &lanes[one.lane as usize], one.from)?;
