@@ -37,12 +37,12 @@ single low high (o ∷ p ∷ ps) = None
 abbrev pub option_in : ℕ → ℕ → Word → List (Word × Word) → Option (Option ℕ)
 option_in low high name options = single low high (filter (λ o. bytes_eq o.0 name) options)
 
--- how many workers there may be, and how many there are where nothing is said: one only, until workers run side by side
+-- how many workers there may be, and how many there are where nothing is said
 abbrev pub most_workers : ℕ
-most_workers = 1
+most_workers = 16
 
 abbrev pub usual_workers : ℕ
-usual_workers = 1
+usual_workers = 4
 
 -- the number of workers
 abbrev pub workers_or : ℕ → List (Word × Word) → Option ℕ

@@ -9,9 +9,9 @@ use crate::sorting::Given;
 use text_lines::read_number;
 
 // How many workers there may be, and how many there are where nothing is said.
-const MOST_WORKERS: u64 = 1;
+const MOST_WORKERS: u64 = 16;
 
-pub(crate) const USUAL_WORKERS: u32 = 1;
+pub(crate) const USUAL_WORKERS: u32 = 4;
 
 // The number that the word is, where it is one of the range.
 pub(crate) fn number_in(word: &[u8], low: u64, high: u64) -> Option<u64>

@@ -1,5 +1,5 @@
 -- The text that is due: what a command asks for, of the files that were read.
-use Rattle.std.specs.Prelude.{◌≡◌, ℕ, ◌<◌, List, [], false, Option, Some, None}
+use Rattle.std.specs.Prelude.{◌≡◌, ℕ, ◌<◌, ◌≤◌, List, [], false, Option, Some, None}
 use Rattle.std.specs.List.{concat}
 use Rattle.fleet_base.specs.declared.request.Request.{Request}
 use Rattle.fleet_base.specs.declared.request.Entry.{Entry}
@@ -16,11 +16,13 @@ use Rattle.lane_runs.specs.declared.answer.Answer.{Answer}
 use Rattle.plain_run.specs.PlainRun.{IsPlainRun}
 use Rattle.journal_lines.specs.Totals.{totals_of}
 use Rattle.journal_lines.specs.Lines.{journal_lines, last_line}
-use Rattle.journal_lines.specs.Printing.{IsJournalText}
+use Rattle.book_trait.specs.Passes.{JoinedView}
+use Rattle.tail_run.specs.Finished.{AreAJournal}
 use Rattle.request_maker.specs.Making.{made_grid, made_requests}
 use Rattle.command_line.specs.declared.command.Command.{Command}
 use Rattle.command_line.specs.declared.command.Command.TheVariants.{One, Run, Orders, Gen, Check, Long, Turns}
 use Rattle.command_line.specs.Sorting.{Word}
+use Rattle.fleet_run.specs.Workers.{IsSharedRun}
 use Rattle.fleet_run.specs.Texts.{answer_text}
 use Rattle.fleet_run.specs.Files.{IsMapRead, IsScenRead, IsOrdersRead}
 
@@ -61,20 +63,24 @@ pub record IsText (g : Terrain) (q : Request) (text : List ℕ) : Type 0 where
 
 -- ---- runs
 
--- The text is that of the run by one worker: a line for each of its answers, in the order of the orders. It is the
--- journal of a legal history that keeps the lanes.
-pub record IsRunText (g : Terrain) (horizon : ℕ) (lanes : List Lane) (text : List ℕ) : Type 0 where
-  pub answers : List Answer
-  pub plain : IsPlainRun g horizon (all_orders lanes) answers
-  pub says : text ≡ concat (journal_lines g lanes answers)
-  pub journal : IsJournalText g horizon lanes text
+-- Who ran: one worker alone, who plans each order in its turn, and nothing was joined; or several workers and a tail.
+abbrev pub IsRunBy : Terrain → ℕ → List Lane → ℕ → List Answer → Option JoinedView → Type 0
+IsRunBy g horizon lanes workers printed None = (workers ≡ 1) × IsPlainRun g horizon (all_orders lanes) printed
+IsRunBy g horizon lanes workers printed (Some j) = (2 ≤ workers) × IsSharedRun g horizon workers lanes j printed
 
--- the text is the last line of the text of the run by one worker
-pub record IsLastLine (g : Terrain) (horizon : ℕ) (lanes : List Lane) (text : List ℕ) : Type 0 where
-  pub answers : List Answer
-  pub plain : IsPlainRun g horizon (all_orders lanes) answers
-  pub says : text ≡ last_line (totals_of answers)
-  pub journal : IsJournalText g horizon lanes (concat (journal_lines g lanes answers))
+-- The text has a line for each answer of a run by so many workers. It is the journal of a legal history that keeps the lanes.
+pub record IsRunText (g : Terrain) (horizon : ℕ) (lanes : List Lane) (workers : ℕ) (text : List ℕ) (joined : Option JoinedView) : Type 0 where
+  pub printed : List Answer
+  pub journal : AreAJournal g horizon lanes printed
+  pub by : IsRunBy g horizon lanes workers printed joined
+  pub says : text ≡ concat (journal_lines g lanes printed)
+
+-- the text is the last line of such a text
+pub record IsLastLine (g : Terrain) (horizon : ℕ) (lanes : List Lane) (workers : ℕ) (text : List ℕ) (joined : Option JoinedView) : Type 0 where
+  pub printed : List Answer
+  pub journal : AreAJournal g horizon lanes printed
+  pub by : IsRunBy g horizon lanes workers printed joined
+  pub says : text ≡ last_line (totals_of printed)
 
 -- ---- commands
 
@@ -84,26 +90,26 @@ pub record IsOneDue (files : Option (List NamedFile)) (name : Word) (from to : �
   pub inside : AreInside grid from to
   pub answer : IsText grid (request_of grid from to) text
 
-pub record IsRunDue (files : Option (List NamedFile)) (name scenario : Word) (horizon : ℕ) (kept : Option ℕ) (text : List ℕ) : Type 0 where
+pub record IsRunDue (files : Option (List NamedFile)) (name scenario : Word) (horizon : ℕ) (kept : Option ℕ) (workers : ℕ) (text : List ℕ) (joined : Option JoinedView) : Type 0 where
   pub grid : Terrain
   pub requests : List Request
   pub map : IsMapRead files name grid
   pub rows : IsScenRead files scenario grid kept requests
-  pub journal : IsRunText grid horizon (request_lanes 0 requests) text
+  pub journal : IsRunText grid horizon (request_lanes 0 requests) workers text joined
 
-pub record AreOrdersDue (files : Option (List NamedFile)) (name orders : Word) (horizon : ℕ) (text : List ℕ) : Type 0 where
+pub record AreOrdersDue (files : Option (List NamedFile)) (name orders : Word) (horizon workers : ℕ) (text : List ℕ) (joined : Option JoinedView) : Type 0 where
   pub grid : Terrain
   pub lanes : List Lane
   pub map : IsMapRead files name grid
   pub rows : IsOrdersRead files orders grid lanes
-  pub journal : IsRunText grid horizon lanes text
+  pub journal : IsRunText grid horizon lanes workers text joined
 
--- the text that a command asks for
-abbrev pub IsDue : Option (List NamedFile) → Command Word → List ℕ → Type 0
-IsDue files (One m a b c d) text = IsOneDue files m (a, b) (c, d) text
-IsDue files (Run m s w h t) text = IsRunDue files m s h t text
-IsDue files (Orders m o w h) text = AreOrdersDue files m o h text
-IsDue files (Gen w h p n s k l) text = IsLastLine (made_grid w h p s) l (request_lanes 0 (made_requests w h n s)) text
-IsDue files (Check m o j h) text = ⊥
-IsDue files (Long m o h) text = ⊥
-IsDue files (Turns m o h) text = ⊥
+-- the text that a command asks for, and what its workers have joined
+abbrev pub IsDue : Option (List NamedFile) → Command Word → List ℕ → Option JoinedView → Type 0
+IsDue files (One m a b c d) text joined = IsOneDue files m (a, b) (c, d) text × (joined ≡ None)
+IsDue files (Run m s w h t) text joined = IsRunDue files m s h t w text joined
+IsDue files (Orders m o w h) text joined = AreOrdersDue files m o h w text joined
+IsDue files (Gen w h p n s k l) text joined = IsLastLine (made_grid w h p s) l (request_lanes 0 (made_requests w h n s)) k text joined
+IsDue files (Check m o j h) text joined = ⊥
+IsDue files (Long m o h) text joined = ⊥
+IsDue files (Turns m o h) text joined = ⊥

@@ -7,6 +7,7 @@ use Rattle.fleet_io.specs.Written.{Writes, WritesFront}
 use Rattle.map_text.specs.declared.fault.MapKind.{MapKind}
 use Rattle.scen_text.specs.declared.fault.ScenKind.{ScenKind}
 use Rattle.order_text.specs.declared.fault.OrderKind.{OrderKind}
+use Rattle.book_trait.specs.Passes.{JoinedView}
 use Rattle.command_line.specs.declared.command.Command.{Command}
 use Rattle.command_line.specs.declared.command.Command.TheVariants.{One, Run, Orders}
 use Rattle.command_line.specs.Sorting.{Word}
@@ -105,26 +106,26 @@ HasStopped view words files failed now stop = (c : Command Word) × IsAsked word
 
 -- ---- outcomes
 
--- the text that the words ask for
-pub record IsWanted (words : List Word) (files : Option (List NamedFile)) (text : List ℕ) : Type 0 where
+-- the text that the words ask for, and what was joined
+pub record IsWanted (words : List Word) (files : Option (List NamedFile)) (text : List ℕ) (joined : Option JoinedView) : Type 0 where
   pub command : Command Word
   pub asked : IsAsked words command
-  pub due : IsDue files command text
+  pub due : IsDue files command text joined
 
--- what there is to write, or a stop with its cause
-abbrev pub HasPrepared : {N J : Type 0} → (N → Word) → (J → List ℕ) → List Word → Option (List NamedFile) → List Word → List Word → Result J (Stop N) → Type 0
-HasPrepared view bytes words files failed now (Ok job) = IsWanted words files (bytes job) × (now ≡ failed)
-HasPrepared view bytes words files failed now (Err stop) = HasStopped view words files failed now stop
+-- what there is to write, of which each text is wanted, or a stop with its cause
+abbrev pub HasPrepared : {N J : Type 0} → (N → Word) → (J → List ℕ → Type 0) → (J → Option JoinedView) → List Word → Option (List NamedFile) → List Word → List Word → Result J (Stop N) → Type 0
+HasPrepared view says joined words files failed now (Ok job) = ((text : List ℕ) → says job text → IsWanted words files text (joined job)) × (now ≡ failed)
+HasPrepared view says joined words files failed now (Err stop) = HasStopped view words files failed now stop
 
 -- the same for a command
-abbrev pub HasPreparedFor : {N J : Type 0} → (N → Word) → (J → List ℕ) → Option (List NamedFile) → Command Word → List Word → List Word → Result J (Stop N) → Type 0
-HasPreparedFor view bytes files c failed now (Ok job) = IsDue files c (bytes job) × (now ≡ failed)
-HasPreparedFor view bytes files c failed now (Err stop) = HasCauseIn view files c failed now stop
+abbrev pub HasPreparedFor : {N J : Type 0} → (N → Word) → (J → List ℕ → Type 0) → (J → Option JoinedView) → Option (List NamedFile) → Command Word → List Word → List Word → Result J (Stop N) → Type 0
+HasPreparedFor view says joined files c failed now (Ok job) = ((text : List ℕ) → says job text → IsDue files c text (joined job)) × (now ≡ failed)
+HasPreparedFor view says joined files c failed now (Err stop) = HasCauseIn view files c failed now stop
 
 -- the same for a command that may not be offered yet
-abbrev pub HasPreparedIfOffered : {N J : Type 0} → (N → Word) → (J → List ℕ) → Option (List NamedFile) → Command Word → List Word → List Word → Result J (Stop N) → Type 0
-HasPreparedIfOffered view bytes files c failed now result =
-    MatchBool (is_offered c) (HasPreparedFor view bytes files c failed now result) ((result ≡ Err stops.NoCommand) × (now ≡ failed))
+abbrev pub HasPreparedIfOffered : {N J : Type 0} → (N → Word) → (J → List ℕ → Type 0) → (J → Option JoinedView) → Option (List NamedFile) → Command Word → List Word → List Word → Result J (Stop N) → Type 0
+HasPreparedIfOffered view says joined files c failed now result =
+    MatchBool (is_offered c) (HasPreparedFor view says joined files c failed now result) ((result ≡ Err stops.NoCommand) × (now ≡ failed))
 
 -- the line of the stop went to `err`, or memory ran out for it
 abbrev pub HasReported : {N : Type 0} → (N → Word) → Stop N → Option (List ℕ) → ℕ → Option (List ℕ) → ℕ → Outcome → Type 0
@@ -140,22 +141,28 @@ HasStoppedAs words u v outcome = (stop : Stop Word) × (outcome ≡ outcome_of s
 -- a front of a text that the words ask for was written, and this line to `err`
 pub record HasBrokenOff (words : List Word) (u v : World) (line : List ℕ) : Type 0 where
   pub text : List ℕ
-  pub wanted : IsWanted words u.files text
+  pub joined : Option JoinedView
+  pub wanted : IsWanted words u.files text joined
   pub front : WritesFront u.out text v.out
   pub told : GotLine u.err u.err_faults line v.err v.err_faults
   pub no_name : v.failed ≡ u.failed
 
--- all of such a text was written, and nothing to `err`
-pub record IsDone (words : List Word) (u v : World) : Type 0 where
+-- all of such a text was written, and nothing to `err`; what was joined for it is handed out
+pub record IsDone (words : List Word) (u v : World) (joined : Option JoinedView) : Type 0 where
   pub text : List ℕ
-  pub wanted : IsWanted words u.files text
+  pub wanted : IsWanted words u.files text joined
   pub written : Writes u.out text v.out
   pub silent : v.err ≡ u.err
   pub no_name : v.failed ≡ u.failed
 
--- the outcome with all that a call has to have done for it
-abbrev pub HasEnded : List Word → World → World → Outcome → Type 0
-HasEnded words u v outcomes.Done = IsDone words u v
-HasEnded words u v outcomes.WriteFault = HasBrokenOff words u v (codes "fleet: cannot write\n") × HasRisen u.out_faults v.out_faults
-HasEnded words u v outcomes.Memory = HasStoppedAs words u v outcomes.Memory ⊎ HasBrokenOff words u v (codes "fleet: out of memory\n")
-HasEnded words u v outcome = HasStoppedAs words u v outcome
+-- an outcome other than that all was done, with all that a call has to have done for it
+abbrev pub HasEndedShort : List Word → World → World → Outcome → Type 0
+HasEndedShort words u v outcomes.Done = ⊥
+HasEndedShort words u v outcomes.WriteFault = HasBrokenOff words u v (codes "fleet: cannot write\n") × HasRisen u.out_faults v.out_faults
+HasEndedShort words u v outcomes.Memory = HasStoppedAs words u v outcomes.Memory ⊎ HasBrokenOff words u v (codes "fleet: out of memory\n")
+HasEndedShort words u v outcome = HasStoppedAs words u v outcome
+
+-- the outcome, and what was joined: nothing, where not all was done
+abbrev pub HasEnded : List Word → World → World → Outcome → Option JoinedView → Type 0
+HasEnded words u v outcomes.Done joined = IsDone words u v joined
+HasEnded words u v outcome joined = HasEndedShort words u v outcome × (joined ≡ None)

@@ -1,6 +1,7 @@
 pub mod Offered
 pub mod Texts
 pub mod Files
+pub mod Workers
 pub mod Due
 pub mod Stopped
 pub mod Ended

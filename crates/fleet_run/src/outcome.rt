@@ -1,3 +1,5 @@
+use turn_book::TurnJoined;
+
 /// How a call of `fleet` ended. Its number is the exit status of the program.
 #[derive(Clone, Copy, Debug, PartialEq, Eq)]
 pub enum Outcome {
@@ -16,4 +18,12 @@ pub enum Outcome {
     WriteFault = 6,
     /// Memory ran out.
     Memory = 7,
+}
+
+/// The outcome of a call of `fleet`; and where it is `Done` and several workers ran, what they have joined: all entries of
+/// their book's list, and how often they were answered 'again' and 'full'.
+#[derive(Drop)]
+pub struct Ended {
+    pub outcome: Outcome,
+    pub joined: Option<TurnJoined>,
 }

@@ -1,21 +1,37 @@
-ghost use Rattle.std.specs.Prelude.{map, string_bytes};
+ghost use Rattle.std.specs.Prelude.{◌≡◌, None, map, string_bytes};
+ghost use Rattle.std.specs.Option.{option_map};
+ghost use Rattle.turn_book.specs.Passes.{joined_view};
 ghost use Rattle.fleet_run.specs.Ended.{World, HasEnded};
 ghost use Rattle.fleet_run.specs.Good.{Completes};
 
-use crate::outcome::Outcome;
+use crate::outcome::{Ended, Outcome};
 use crate::prepare::prepare;
 use crate::report::{report, write_line};
 use crate::writing::{WriteStop, write_job};
 use fleet_io::{Shelf, Sink};
+use planner_pool::Gate;
 use std::alloc::Global;
+use std::thread::Threads;
 
-fn run<H: Shelf, S: Sink>(
+// An outcome for which nothing was joined.
+fn without(outcome: Outcome) -> Ended
+    ensures { result ≡ record { outcome = outcome; joined = None } }
+{
+    Ended {
+        outcome,
+        joined: None,
+    }
+}
+
+fn run<R: Threads + Sync, H: Shelf, S: Sink, G: Gate>(
+    rt: &R,
     alloc: Global,
     words: &[String],
     shelf: &mut H,
     out: &mut S,
     err: &mut S,
-) -> Outcome
+    gate: &G,
+) -> Ended
     ensures { let before : World = record {
       files = H.told shelf.old;
       failed = H.failed shelf.old;
@@ -32,33 +48,39 @@ fn run<H: Shelf, S: Sink>(
           err = S.told err.new;
           err_faults = S.faults err.new;
         } in
-        HasEnded (map string_bytes words.now) before after result }
+        HasEnded (map string_bytes words.now) before after result.outcome (option_map joined_view result.joined) }
 {
-    match prepare(alloc, words, shelf) {
-        Err(stop) => report(alloc, err, stop),
+    match prepare(rt, alloc, words, shelf, gate) {
+        Err(stop) => without(report(alloc, err, stop)),
         Ok(job) => match write_job(alloc, out, &job) {
-            Ok(()) => Outcome::Done,
+            Ok(()) => Ended {
+                outcome: Outcome::Done,
+                joined: job.into_joined(),
+            },
             Err(WriteStop::SinkFailed) => {
                 write_line(err, b"fleet: cannot write\n");
-                Outcome::WriteFault
+                without(Outcome::WriteFault)
             }
             Err(WriteStop::NoMemory) => {
                 write_line(err, b"fleet: out of memory\n");
-                Outcome::Memory
+                without(Outcome::Memory)
             }
         },
     }
 }
 
 /// Does what the words after the program's name ask for, with the files of `shelf`.
+/// `run`, `orders` and `gen` run by as many workers as the words say, in threads of `rt`; the gate is told of each order.
 /// The text goes to `out`. With every outcome but `Done` one line goes to `err`; a fault of `err` changes no outcome.
-pub fn fleet<H: Shelf, S: Sink>(
+pub fn fleet<R: Threads + Sync, H: Shelf, S: Sink, G: Gate>(
+    rt: &R,
     alloc: Global,
     words: &[String],
     shelf: &mut H,
     out: &mut S,
     err: &mut S,
-) -> Outcome
+    gate: &G,
+) -> Ended
     ensures ends { let before : World = record {
       files = H.told shelf.old;
       failed = H.failed shelf.old;
@@ -75,7 +97,7 @@ pub fn fleet<H: Shelf, S: Sink>(
           err = S.told err.new;
           err_faults = S.faults err.new;
         } in
-        HasEnded (map string_bytes words.now) before after result }
+        HasEnded (map string_bytes words.now) before after result.outcome (option_map joined_view result.joined) }
     ensures complete { let before : World = record {
       files = H.told shelf.old;
       failed = H.failed shelf.old;
@@ -92,7 +114,7 @@ pub fn fleet<H: Shelf, S: Sink>(
           err = S.told err.new;
           err_faults = S.faults err.new;
         } in
-        Completes (map string_bytes words.now) before after result }
+        Completes (map string_bytes words.now) before after result.outcome }
 {
-    run(alloc, words, shelf, out, err)
+    run(rt, alloc, words, shelf, out, err, gate)
 }

@@ -1,4 +1,4 @@
-ghost use Rattle.std.specs.Prelude.{◌≡◌, ℕ, ◌+◌, ◌<◌, ◌≤◌, length, All, OnOk};
+ghost use Rattle.std.specs.Prelude.{◌≡◌, ℕ, ◌+◌, ◌<◌, ◌≤◌, length, map, OnOk};
 ghost use Rattle.std.specs.List.{concat};
 ghost use Rattle.fleet_io.specs.Written.{Writes};
 ghost use Rattle.order_text.specs.Lanes.{all_orders, AreNumberedFrom};
@@ -6,14 +6,16 @@ ghost use Rattle.lane_runs.specs.Answers.{order_of};
 ghost use Rattle.journal_lines.specs.Totals.{with_answer, CountAtMost};
 ghost use Rattle.journal_lines.specs.Lines.{answer_line, journal_lines, last_line};
 ghost use Rattle.fleet_run.specs.Texts.{answer_text};
-ghost use Rattle.fleet_run.specs.Jobs.{text_of, CanBeWritten};
-ghost use Rattle.fleet_run.specs.Writing.{IsCut};
+ghost use Rattle.journal_lines.specs.Printing.{AreOfRun};
+ghost use Rattle.fleet_run.specs.Jobs.{Says, IsPrintedAs, CanBeWritten};
+ghost use Rattle.fleet_run.specs.Workers.{AnswerLanes};
+ghost use Rattle.fleet_run.specs.Writing.{IsCut, IsCutOf, WritesOne};
 
 use crate::job::Job;
 use crate::text::answer_text;
 use fleet_base::{Grid, Memory, Walk};
 use fleet_io::Sink;
-use journal_lines::{Totals, push_last_line, push_line};
+use journal_lines::{Totals, lend_each, print_order, push_last_line, push_line};
 use lane_runs::Answer;
 use order_text::Lane;
 use std::alloc::Global;
@@ -87,20 +89,51 @@ fn write_journal<S: Sink>(
     out: &mut S,
     grid: &Grid,
     lanes: &[Lane],
-    answers: &[Answer],
+    printed: &[&Answer],
 ) -> Result<(), WriteStop>
-    requires numbered { AreNumberedFrom 0 lanes.now }
-    requires few { length answers.now ≤ 32767 }
-    requires orders { All (λ a. order_of a < length (all_orders lanes.now)) answers.now }
-    ensures written { OnOk result (Writes (S.told out.old) (concat (journal_lines grid.now lanes.now answers.now)) (S.told out.new)) }
-    ensures cut { IsCut (S.told out.old) (S.faults out.old) (concat (journal_lines grid.now lanes.now answers.now)) (S.told out.new) (S.faults out.new) result }
+    requires lanes { AnswerLanes lanes.now (map (λ a. a.now) printed.now) }
+    ensures written { OnOk result (Writes (S.told out.old) (concat (journal_lines grid.now lanes.now (map (λ a. a.now) printed.now))) (S.told out.new)) }
+    ensures cut { IsCut (S.told out.old) (S.faults out.old) (concat (journal_lines grid.now lanes.now (map (λ a. a.now) printed.now))) (S.told out.new) (S.faults out.new) result }
 {
     let mut line = Vec::new(alloc);
     let mut totals = Totals::none();
-    for answer in answers {
+    for answer in printed {
         write_answer(out, &mut line, grid, lanes, &mut totals, answer)?;
     }
     write_totals(out, &mut line, &totals)
+}
+
+// Writes the journal of answers that stand in the order in which they are printed.
+fn write_alone<S: Sink>(
+    alloc: Global,
+    out: &mut S,
+    grid: &Grid,
+    lanes: &[Lane],
+    answers: &[Answer],
+) -> Result<(), WriteStop>
+    requires lanes { AnswerLanes lanes.now answers.now }
+    ensures written { OnOk result (Writes (S.told out.old) (concat (journal_lines grid.now lanes.now answers.now)) (S.told out.new)) }
+    ensures cut { IsCut (S.told out.old) (S.faults out.old) (concat (journal_lines grid.now lanes.now answers.now)) (S.told out.new) (S.faults out.new) result }
+{
+    let printed = lend_each(alloc, answers)?;
+    write_journal(alloc, out, grid, lanes, &printed)
+}
+
+// Writes the journal of answers in any order.
+fn write_shared<S: Sink>(
+    alloc: Global,
+    out: &mut S,
+    grid: &Grid,
+    lanes: &[Lane],
+    answers: &[Answer],
+) -> Result<(), WriteStop>
+    requires lanes { AnswerLanes lanes.now answers.now }
+    requires run { AreOfRun answers.now }
+    ensures written { OnOk result (WritesOne (IsPrintedAs grid.now lanes.now answers.now) (S.told out.old) (S.told out.new)) }
+    ensures cut { IsCutOf (IsPrintedAs grid.now lanes.now answers.now) (S.told out.old) (S.faults out.old) (S.told out.new) (S.faults out.new) result }
+{
+    let printed = print_order(alloc, answers)?;
+    write_journal(alloc, out, grid, lanes, &printed)
 }
 
 fn write_reply<S: Sink>(
@@ -116,11 +149,11 @@ fn write_reply<S: Sink>(
     write_piece(out, text.as_slice())
 }
 
-// Writes the text of a job.
+// Writes a text of a job.
 pub fn write_job<S: Sink>(alloc: Global, out: &mut S, job: &Job) -> Result<(), WriteStop>
     requires right { CanBeWritten job.now }
-    ensures written { OnOk result (Writes (S.told out.old) (text_of job.now) (S.told out.new)) }
-    ensures cut { IsCut (S.told out.old) (S.faults out.old) (text_of job.now) (S.told out.new) (S.faults out.new) result }
+    ensures written { OnOk result (WritesOne (Says job.now) (S.told out.old) (S.told out.new)) }
+    ensures cut { IsCutOf (Says job.now) (S.told out.old) (S.faults out.old) (S.told out.new) (S.faults out.new) result }
 {
     match job {
         Job::Reply { book, answer } => write_reply(alloc, out, book.grid(), answer),
@@ -128,7 +161,13 @@ pub fn write_job<S: Sink>(alloc: Global, out: &mut S, job: &Job) -> Result<(), W
             book,
             lanes,
             answers,
-        } => write_journal(alloc, out, book.grid(), lanes, answers),
-        Job::LastLine { totals } => write_totals(out, &mut Vec::new(alloc), totals),
+        } => write_alone(alloc, out, book.grid(), lanes, answers),
+        Job::Shared {
+            grid,
+            lanes,
+            answers,
+            ..
+        } => write_shared(alloc, out, grid, lanes, answers),
+        Job::LastLine { totals, .. } => write_totals(out, &mut Vec::new(alloc), totals),
     }
 }

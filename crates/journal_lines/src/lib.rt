@@ -17,6 +17,6 @@ mod totals;
 
 pub use line::{push_last_line, push_line};
 pub use moves::push_moves;
-pub use order::print_order;
+pub use order::{lend_each, print_order};
 pub use text::{Line, journal_text};
 pub use totals::Totals;

@@ -24,7 +24,8 @@ fn head_after(head: Option<JournalKey>, answer: &Answer) -> Option<JournalKey>
     }
 }
 
-fn lend_each<'a>(alloc: Global, answers: &'a [Answer]) -> Result<Vec<&'a Answer>, Memory>
+/// Lends each answer, in their order.
+pub fn lend_each<'a>(alloc: Global, answers: &'a [Answer]) -> Result<Vec<&'a Answer>, Memory>
     ensures { IfOk result (λ lent. map (λ a. a.now) lent.items ≡ answers.now) }
 {
     let lent = answers.iter().collect(alloc)?;

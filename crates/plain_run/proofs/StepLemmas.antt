@@ -42,13 +42,13 @@ use Rattle.plain_run.specs.Underway.{IsNewBook, IsBehind, IsUnderway}
 
 -- ---- lists
 
-made_more : (xs : List Answer) (n : ℕ) (e : Entry) → entries_made (xs ++ Made n e ∷ []) ≡ entries_made xs ++ e ∷ []
+pub made_more : (xs : List Answer) (n : ℕ) (e : Entry) → entries_made (xs ++ Made n e ∷ []) ≡ entries_made xs ++ e ∷ []
 made_more xs n e = filter_map-append entry_made xs (Made n e ∷ [])
 
-gone_more : (xs : List Answer) (n t : ℕ) → entries_made (xs ++ Gone n t ∷ []) ≡ entries_made xs
+pub gone_more : (xs : List Answer) (n t : ℕ) → entries_made (xs ++ Gone n t ∷ []) ≡ entries_made xs
 gone_more xs n t = filter_map-append entry_made xs (Gone n t ∷ []) ∙ append-nil (entries_made xs)
 
-past_more : (es : List Entry) (e : Entry) → past_of (es ++ e ∷ []) ≡ followed_by (past_of es) e
+pub past_more : (es : List Entry) (e : Entry) → past_of (es ++ e ∷ []) ≡ followed_by (past_of es) e
 past_more es e = fold-append followed_by nothing es (e ∷ [])
 
 take_front : {X : Type 0} (xs ys : List X) (n : ℕ) → n ≤ length xs → take n (xs ++ ys) ≡ take n xs
@@ -60,7 +60,7 @@ take_all : {X : Type 0} (xs ys : List X) → take (length xs) (xs ++ ys) ≡ xs
 take_all [] ys = refl
 take_all (x ∷ xs) ys = ap (λ l. x ∷ l) (take_all xs ys)
 
-same_some : {X : Type 0} (a b : X) → Some a ≡ Some b → a ≡ b
+pub same_some : {X : Type 0} (a b : X) → Some a ≡ Some b → a ≡ b
 same_some a b h = cc
 
 -- one answer more, which is right after those before it
@@ -83,7 +83,7 @@ run_more g horizon orders xs o a was at number right = record {
 -- ---- the order of the journal
 
 -- what is behind the book comes before the entry that it answers next
-behind_first : (book : BookState) (e x : Entry) → era_of e ≡ book.era → ((id : RouteId) → reply_of e ≡ Some id → book.stamp < id.stamp) → IsBehind book x → Precedes x e
+pub behind_first : (book : BookState) (e x : Entry) → era_of e ≡ book.era → ((id : RouteId) → reply_of e ≡ Some id → book.stamp < id.stamp) → IsBehind book x → Precedes x e
 behind_first book e x era new (inl less) = inl (omega (arith, era))
 behind_first book e x era new (inr same) = inr (same.0 ∙ sym era, first (reply_of x) (reply_of e) refl refl)
   where
@@ -101,11 +101,11 @@ behind_first book e x era new (inr same) = inr (same.0 ∙ sym era, first (reply
         no_reply : (r : RouteId) → Some r ≡ None → ⊥
         no_reply r h = cc
 
-order_more : (book : BookState) (es : List Entry) (e : Entry) → IsInOrder es → All (IsBehind book) es → era_of e ≡ book.era → ((id : RouteId) → reply_of e ≡ Some id → book.stamp < id.stamp) → IsInOrder (es ++ e ∷ [])
+pub order_more : (book : BookState) (es : List Entry) (e : Entry) → IsInOrder es → All (IsBehind book) es → era_of e ≡ book.era → ((id : RouteId) → reply_of e ≡ Some id → book.stamp < id.stamp) → IsInOrder (es ++ e ∷ [])
 order_more book es e sorted behind era new = all_pairs_push Precedes es e sorted (λ k d h. behind_first book e (get_or es k d) era new (behind k d h))
 
 -- what was behind stays behind
-behind_still : (old new : BookState) (x : Entry) → old.era ≤ new.era → old.stamp ≤ new.stamp → IsBehind old x → IsBehind new x
+pub behind_still : (old new : BookState) (x : Entry) → old.era ≤ new.era → old.stamp ≤ new.stamp → IsBehind old x → IsBehind new x
 behind_still old new x eras stamps (inl less) = inl (omega arith)
 behind_still old new x eras stamps (inr same) = elim (nat_cases (era_of x) new.era) [
   | inl less ↦ inl less
@@ -115,28 +115,28 @@ behind_still old new x eras stamps (inr same) = elim (nat_cases (era_of x) new.e
       inr (omega arith, (same.1.0, same.1.1, omega arith))
 ]
 
-all_still : (old new : BookState) (es : List Entry) → old.era ≤ new.era → old.stamp ≤ new.stamp → All (IsBehind old) es → All (IsBehind new) es
+pub all_still : (old new : BookState) (es : List Entry) → old.era ≤ new.era → old.stamp ≤ new.stamp → All (IsBehind old) es → All (IsBehind new) es
 all_still old new es eras stamps behind k d h = behind_still old new (get_or es k d) eras stamps (behind k d h)
 
 -- ---- live routes
 
-or_second : (a b : Bool) → b ≡ true → (a || b) ≡ true
+pub or_second : (a b : Bool) → b ≡ true → (a || b) ≡ true
 or_second true b h = refl
 or_second false b h = h
 
-or_first : (a b : Bool) → a ≡ true → (a || b) ≡ true
+pub or_first : (a b : Bool) → a ≡ true → (a || b) ≡ true
 or_first true b h = refl
 or_first false b h = absurd (true≢false (sym h))
 
-live_new : (id : RouteId) (w : TimedWalk) (old new : List Live) → IsPermutation new (record { id = id; walk = w } ∷ old) → IsLive id new
+pub live_new : (id : RouteId) (w : TimedWalk) (old new : List Live) → IsPermutation new (record { id = id; walk = w } ∷ old) → IsLive id new
 live_new id w old new same =
     list_any-IsPermutation (λ r. same_id r.id id) new (record { id = id; walk = w } ∷ old) same ∙ or_first (same_id id id) _ (ap₂ ◌&&◌ (eq-eqb id.stamp id.stamp refl) (eq-eqb id.caller id.caller refl))
 
-live_still : (id : RouteId) (w : TimedWalk) (other : RouteId) (old new : List Live) → IsPermutation new (record { id = id; walk = w } ∷ old) → IsLive other old → IsLive other new
+pub live_still : (id : RouteId) (w : TimedWalk) (other : RouteId) (old new : List Live) → IsPermutation new (record { id = id; walk = w } ∷ old) → IsLive other old → IsLive other new
 live_still id w other old new same lives =
     list_any-IsPermutation (λ r. same_id r.id other) new (record { id = id; walk = w } ∷ old) same ∙ or_second (same_id id other) _ lives
 
-any_filter : {X : Type 0} (t k : X → Bool) (xs : List X) → ((x : X) → t x ≡ true → k x ≡ true) → list_any t xs ≡ true → list_any t (filter k xs) ≡ true
+pub any_filter : {X : Type 0} (t k : X → Bool) (xs : List X) → ((x : X) → t x ≡ true → k x ≡ true) → list_any t xs ≡ true → list_any t (filter k xs) ≡ true
 any_filter t k [] both h = h
 any_filter {X = X} t k (x ∷ xs) both h = by_test (t x) (k x) refl (both x) h (λ rest. any_filter t k xs both rest)
   where
@@ -159,7 +159,7 @@ not_same a b c h apart = by_test (same_id a c) (λ t. apart (sym (same_stamp a b
     by_test true off = absurd (off refl)
     by_test false off = refl
 
-live_others : (id other : RouteId) (old new : List Live) → IsPermutation new (filter (λ r. not (same_id r.id id)) old) → other.stamp ≢ id.stamp → IsLive other old → IsLive other new
+pub live_others : (id other : RouteId) (old new : List Live) → IsPermutation new (filter (λ r. not (same_id r.id id)) old) → other.stamp ≢ id.stamp → IsLive other old → IsLive other new
 live_others id other old new same apart lives =
     list_any-IsPermutation (λ r. same_id r.id other) new (filter (λ r. not (same_id r.id id)) old) same
     ∙ any_filter (λ r. same_id r.id other) (λ r. not (same_id r.id id)) old (λ r test. not_same r.id other id test apart) lives

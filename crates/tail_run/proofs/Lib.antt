@@ -1,8 +1,11 @@
 pub mod JournalLemmas
 pub mod LeavingLemmas
+pub mod LoopLemmas
 pub mod KeepingLemmas
 pub mod PrintedLemmas
+pub mod TailSteps
+pub mod LaneSteps
 pub mod GivenLemmas
 pub mod BehindLemmas
 pub mod GoingLemmas
-pub mod LoopLemmas
+pub mod LanesLemmas

@@ -1,107 +1,121 @@
--- The loop over the lanes that were left: each is answered in what the lanes before it came to.
-use Rattle.std.proofs.Common.{◌≡◌, ℕ, ◌+◌, ◌<◌, ◌≤◌, List, [], ◌∷◌, length, get_or, drop, Some, refl, sym, ap, ◌∙◌, subst, arith}
-use Rattle.std.specs.Prelude.{All, slice_get}
-use Rattle.std.proofs.lemmas.List.{length-append, drop_more, drop_all}
-use Rattle.std.proofs.lemmas.Option.{slice_get_within, slice_get-get_or}
-use Rattle.fleet_base.specs.Terrain.{Terrain}
-use Rattle.order_text.specs.declared.lane.Lane.{Lane}
-use Rattle.order_text.specs.Lanes.{all_orders, after_lane, IsLane, AreLanes}
+-- What one answer more changes, in the words of the loops over the answers.
+use Rattle.std.proofs.Common.{◌≡◌, ℕ, ◌+◌, ◌||◌, Bool, true, false, cond, List, [], ◌∷◌, ◌++◌, length, take, Option, Some, None}
+use Rattle.std.proofs.Common.{refl, sym, ap, ap₂, subst, ◌∙◌, arith, not, append-nil}
+use Rattle.std.specs.Prelude.{filter, slice_get, is_some, if◌then◌else◌}
+use Rattle.std.specs.List.{list_any, filter_map, cons_option}
+use Rattle.std.specs.BTreeMap.{is_at}
+use Rattle.std.proofs.lemmas.List.Elements.{filter_map-append}
+use Rattle.std.proofs.lemmas.List.Folds.{list_any-append}
+use Rattle.fleet_base.specs.declared.request.RouteId.{RouteId}
+use Rattle.fleet_base.specs.declared.request.Request.{Request}
+use Rattle.fleet_base.specs.declared.request.Live.{Live}
+use Rattle.fleet_base.specs.declared.request.Entry.{Entry}
+use Rattle.fleet_base.specs.declared.request.Entry.TheVariants as E
+use Rattle.fleet_base.specs.History.{same_id}
+use Rattle.fleet_base.specs.TimedWalk.{TimedWalk}
+use Rattle.plain_book.specs.Kept.{id_cmp}
+use Rattle.plain_book.proofs.Entries.{at_is_same}
 use Rattle.lane_runs.specs.declared.answer.Answer.{Answer}
-use Rattle.lane_runs.specs.declared.answer.Left.{Left}
-use Rattle.journal_lines.proofs.Numbering.{All-at}
-use Rattle.planner_pool.specs.Runs.{IsLeftOf}
-use Rattle.planner_pool.proofs.RunLemmas.{left_is}
-use Rattle.tail_run.specs.declared.lane.Tail.{Tail}
-use Rattle.tail_run.specs.Tails.{IsStart, IsAtPlace, IsGoing, AreAtEnd}
-use Rattle.tail_run.proofs.KeepingLemmas.{same_some}
-use Rattle.tail_run.proofs.GivenLemmas.{few_answers, ids_long, lane_end}
-use Rattle.tail_run.proofs.GoingLemmas.{going_start, going_more}
+use Rattle.lane_runs.specs.declared.answer.Answer.TheVariants.{Made, Gone}
+use Rattle.tail_run.specs.Leaving.{ended_in, routes_in, ended_ids, ended_count, HasIds, route_unless}
+use Rattle.tail_run.proofs.LeavingLemmas.{count_more, ended_more, take_push}
 
--- one lane, the first of those that are still left
-module _ (g : Terrain) (horizon caller cells : ℕ) (lanes : List Lane) (are : AreLanes cells lanes) (made : List Answer) (all later : List Left) (l : Left) (t : Tail)
-      (going : IsGoing g horizon caller lanes made all (l ∷ later) t) where
-  named : IsLeftOf lanes going.by_lane l
-  named = left_is lanes going.by_lane t.answers.items (l ∷ later) l going.run (0, omega arith, refl)
+-- ---- the set's test of a key
 
-  in_lanes : l.lane < length lanes
-  in_lanes = slice_get_within lanes l.lane named.lane named.at
+any_alike : (p q : RouteId → Bool) → ((key : RouteId) → p key ≡ q key) → (keys : List RouteId) → list_any p keys ≡ list_any q keys
+any_alike p q alike [] = refl
+any_alike p q alike (key ∷ keys) = ap₂ (λ a b. a || b) (alike key) (any_alike p q alike keys)
 
-  module _ (lane d : Lane) (is : lane ≡ get_or lanes l.lane d) where
-    at : slice_get lanes l.lane ≡ Some lane
-    at = slice_get-get_or lanes l.lane d in_lanes ∙ ap Some (sym is)
+pub set_has : (keys : List RouteId) (id : RouteId) → list_any (is_at (id_cmp id)) keys ≡ list_any (λ key. same_id key id) keys
+set_has keys id = any_alike (is_at (id_cmp id)) (λ key. same_id key id) (at_is_same id) keys
 
-    same_lane : named.lane ≡ lane
-    same_lane = same_some named.lane lane (sym named.at ∙ at)
+-- ---- one answer more
 
-    has_ids : after_lane lane ≤ length t.ids.items
-    has_ids = omega (arith, lane_end 0 lanes l.lane lane are.numbered at, ap length going.ids, ids_long (length (all_orders lanes)) t.answers.items)
+length_some : (o : Option RouteId) → is_some o ≡ true → length (cons_option o []) ≡ 1
+length_some (Some id) h = refl
+length_some None h = absurd (cc)
 
-    few_yet : (after_lane lane ≤ 32767) × (t.book.stamp ≤ 32767) × (t.book.era ≤ 32767)
-    few_yet =
-        let few : length t.answers.items ≤ 32767 = let most = are.few_orders in omega (arith, few_answers cells lanes going.by_lane t.answers.items (l ∷ later) are going.run) in
-        let most = are.few_orders in
-        let stamps = going.stamps in
-        let eras = going.eras in
-        (omega (arith, lane_end 0 lanes l.lane lane are.numbered at), omega arith, omega arith)
+length_none : (o : Option RouteId) → is_some o ≡ false → length (cons_option o []) ≡ 0
+length_none (Some id) h = absurd (cc)
+length_none None h = refl
 
-    start_here : IsStart lane named.answers l.from t
-    start_here = subst (λ (z : Lane). IsStart z named.answers l.from t) same_lane (going_start g horizon caller cells lanes are made all later l t going named)
+-- an id more in the set
+id_more : (keys more ids : List RouteId) (id : RouteId) → HasIds keys ids
+    → ((q : RouteId) → list_any (is_at (id_cmp q)) more ≡ cond (is_at (id_cmp id) q) true (list_any (is_at (id_cmp q)) keys)) → HasIds more (ids ++ id ∷ [])
+id_more keys more ids id has updates q =
+    sym (set_has more q) ∙ updates q ∙ ap₂ (λ t a. cond t true a) (at_is_same id q) (set_has keys q ∙ has q)
+    ∙ by_test (same_id q id) (list_any (λ e. same_id q e) ids) ∙ sym (list_any-append (λ e. same_id q e) ids (id ∷ []))
+  where
+    by_test : (t a : Bool) → cond t true a ≡ (a || (t || false))
+    by_test true true = refl
+    by_test true false = refl
+    by_test false true = refl
+    by_test false false = refl
 
-    starts : (xs : List Answer) × IsStart lane xs l.from t
-    starts = (named.answers, start_here)
+module _ (answers : List Answer) (k : ℕ) (a : Answer) (at : slice_get answers k ≡ Some a) where
+  pub counted : (n : ℕ) → n ≡ ended_count (take k answers) → is_some (ended_in a) ≡ true → n + 1 ≡ ended_count (take (k + 1) answers)
+  counted n so_far some = ap₂ (λ m d. m + d) so_far (sym (length_some (ended_in a) some)) ∙ sym (count_more answers k a at)
 
-    one_more : (t' : Tail) → ((xs : List Answer) → IsStart lane xs l.from t → IsAtPlace caller lane xs t (length lane.orders) t') → IsGoing g horizon caller lanes made all later t'
-    one_more t' h =
-        let at_end : IsAtPlace caller lane named.answers t (length lane.orders) t' = h named.answers start_here in
-        let end : IsAtPlace caller named.lane named.answers t (length named.lane.orders) t' = subst (λ (z : Lane). IsAtPlace caller z named.answers t (length z.orders) t') (sym same_lane) at_end in
-        let is = end.at in
-        going_more g horizon caller cells lanes are made all later l t going named t' end.more end.goes (omega (arith, length-append named.answers end.more))
+  pub not_counted : (n : ℕ) → n ≡ ended_count (take k answers) → is_some (ended_in a) ≡ false → n ≡ ended_count (take (k + 1) answers)
+  not_counted n so_far none =
+      let same : n ≡ n + 0 = omega arith in
+      same ∙ ap₂ (λ m d. m + d) so_far (sym (length_none (ended_in a) none)) ∙ sym (count_more answers k a at)
 
--- ---- the loop is at place i of those that were left
+  pub ended_some : (keys more : List RouteId) (id : RouteId) → HasIds keys (ended_ids (take k answers)) → ended_in a ≡ Some id
+      → ((q : RouteId) → list_any (is_at (id_cmp q)) more ≡ cond (is_at (id_cmp id) q) true (list_any (is_at (id_cmp q)) keys))
+      → HasIds more (ended_ids (take (k + 1) answers))
+  ended_some keys more id has some updates =
+      let next : ended_ids (take (k + 1) answers) ≡ ended_ids (take k answers) ++ id ∷ [] = ended_more answers k a at ∙ ap (λ o. ended_ids (take k answers) ++ cons_option o []) some in
+      subst (HasIds more) (sym next) (id_more keys more (ended_ids (take k answers)) id has updates)
 
--- what it began with, for some grid, horizon and answers
-abbrev pub HasBegunSo : ℕ → List Lane → List Left → Tail → Type 0
-HasBegunSo caller lanes left t = (g : Terrain) × (horizon : ℕ) × (made : List Answer) × (all : List Left) × IsGoing g horizon caller lanes made all left t
+  pub ended_none : (keys : List RouteId) → HasIds keys (ended_ids (take k answers)) → ended_in a ≡ None → HasIds keys (ended_ids (take (k + 1) answers))
+  ended_none keys has none =
+      let next : ended_ids (take (k + 1) answers) ≡ ended_ids (take k answers) =
+      ended_more answers k a at ∙ ap (λ o. ended_ids (take k answers) ++ cons_option o []) none ∙ append-nil (ended_ids (take k answers)) in
+      subst (HasIds keys) (sym next) has
 
--- what it has come to, for each of them
-abbrev pub GoesOnSo : ℕ → List Lane → List Left → Tail → ℕ → Tail → Type 0
-GoesOnSo caller lanes left t i t' = (g : Terrain) (horizon : ℕ) (made : List Answer) (all : List Left) → IsGoing g horizon caller lanes made all left t → IsGoing g horizon caller lanes made all (drop i left) t'
+  module _ (keys : List RouteId) (routes : List Live) (so_far : routes ≡ filter_map (route_unless keys) (take k answers)) where
+    live_more : (o : Option Live) → route_unless keys a ≡ o → routes ++ cons_option o [] ≡ filter_map (route_unless keys) (take (k + 1) answers)
+    live_more o is =
+        ap₂ (λ rs r. rs ++ cons_option r []) so_far (sym is)
+        ∙ sym (ap (filter_map (route_unless keys)) (take_push answers k a at) ∙ filter_map-append (route_unless keys) (take k answers) (a ∷ []))
 
-module _ (caller : ℕ) (lanes : List Lane) (left : List Left) (old t : Tail) (i : ℕ) (so_far : GoesOnSo caller lanes left old i t) where
-  -- no lane is left
-  pub at_end : length left ≤ i → (g : Terrain) (horizon : ℕ) (made : List Answer) (all : List Left) → IsGoing g horizon caller lanes made all left old → AreAtEnd g horizon caller lanes made all t.answers.items
-  at_end past g horizon made all going = record {
-    tail = t;
-    going = subst (λ (ls : List Left). IsGoing g horizon caller lanes made all ls t) (drop_all i left past) (so_far g horizon made all going);
-    answers_are = refl;
-  }
+    pub live_some : (r : Live) → route_unless keys a ≡ Some r → routes ++ r ∷ [] ≡ filter_map (route_unless keys) (take (k + 1) answers)
+    live_some r is = live_more (Some r) is
 
-  module _ (d : Left) (within : i < length left) (are : AreLanes (length old.book.grid.cells) lanes) where
-    next : (g : Terrain) (horizon : ℕ) (made : List Answer) (all : List Left) → IsGoing g horizon caller lanes made all left old → IsGoing g horizon caller lanes made all (get_or left i d ∷ drop (i + 1) left) t
-    next g horizon made all going = subst (λ (ls : List Left). IsGoing g horizon caller lanes made all ls t) (drop_more left i d within) (so_far g horizon made all going)
+    pub live_none : route_unless keys a ≡ None → routes ≡ filter_map (route_unless keys) (take (k + 1) answers)
+    live_none is = sym (append-nil routes) ∙ live_more None is
 
-    module _ (begun : HasBegunSo caller lanes left old) where
-      now : IsGoing begun.0 begun.1 caller lanes begun.2 begun.3 (get_or left i d ∷ drop (i + 1) left) t
-      now = next begun.0 begun.1 begun.2 begun.3 begun.4
+-- ---- a route that the set has, or has not
 
-      pub lane_there : (get_or left i d).lane < length lanes
-      lane_there = in_lanes begun.0 begun.1 caller (length old.book.grid.cells) lanes are begun.2 begun.3 (drop (i + 1) left) (get_or left i d) t now
+module _ (keys : List RouteId) (answer : Answer) (order : ℕ) (entry : Entry) (id : RouteId) (era : ℕ) (q : Request) (w : TimedWalk)
+    (made : answer ≡ Made order entry) (committed : entry ≡ E.Commit id era q w) where
+  tested : (t : Bool) → t ≡ list_any (is_at (id_cmp id)) keys → route_unless keys answer ≡ (if t then None else Some (record { id = id; walk = w }))
+  tested t h =
+      ap (route_unless keys) (made ∙ ap (λ e. Made order e) committed)
+      ∙ ap (λ b. if b then None else Some (record { id = id; walk = w })) (sym (h ∙ set_has keys id))
 
-      module _ (lane e : Lane) (is : lane ≡ get_or lanes (get_or left i d).lane e) where
-        pub lane_may : IsLane (length t.book.grid.cells) lane × (after_lane lane ≤ length t.ids.items)
-        lane_may = (
-          subst (λ (g : Terrain). IsLane (length g.cells) lane) (begun.4.grid ∙ sym now.grid) (All-at (IsLane (length old.book.grid.cells)) lanes (get_or left i d).lane lane are.each
-          (at begun.0 begun.1 caller (length old.book.grid.cells) lanes are begun.2 begun.3 (drop (i + 1) left) (get_or left i d) t now lane e is)),
-          has_ids begun.0 begun.1 caller (length old.book.grid.cells) lanes are begun.2 begun.3 (drop (i + 1) left) (get_or left i d) t now lane e is,
-        )
+  pub was_ended : true ≡ list_any (is_at (id_cmp id)) keys → None ≡ route_unless keys answer
+  was_ended h = sym (tested true h)
 
-        pub lane_few : (after_lane lane ≤ 32767) × (t.book.stamp ≤ 32767) × (t.book.era ≤ 32767)
-        lane_few = few_yet begun.0 begun.1 caller (length old.book.grid.cells) lanes are begun.2 begun.3 (drop (i + 1) left) (get_or left i d) t now lane e is
+  pub is_live : (copy : TimedWalk) → copy ≡ w → false ≡ list_any (is_at (id_cmp id)) keys → Some (record { id = id; walk = copy }) ≡ route_unless keys answer
+  is_live copy same h = ap (λ v. Some (record { id = id; walk = v })) same ∙ sym (tested false h)
 
-        pub lane_start : (xs : List Answer) × IsStart lane xs (get_or left i d).from t
-        lane_start = starts begun.0 begun.1 caller (length old.book.grid.cells) lanes are begun.2 begun.3 (drop (i + 1) left) (get_or left i d) t now lane e is
+-- the routes that no key of a set of the ended ids has are those that are live after the answers
+pub live_is_rest : (keys ends : List RouteId) → HasIds keys ends → (xs : List Answer)
+    → filter_map (route_unless keys) xs ≡ filter (λ r. not (list_any (λ id. same_id r.id id) ends)) (routes_in xs)
+live_is_rest keys ends has [] = refl
+live_is_rest keys ends has (Made n (E.Commit id era q w) ∷ xs) = by_test _ _ (has id) (live_is_rest keys ends has xs)
+  where
+    rest : List Live
+    rest = filter (λ r. not (list_any (λ e. same_id r.id e) ends)) (routes_in xs)
 
-    pub lane_more : (lane e : Lane) → lane ≡ get_or lanes (get_or left i d).lane e → (t' : Tail)
-        → ((xs : List Answer) → IsStart lane xs (get_or left i d).from t → IsAtPlace caller lane xs t (length lane.orders) t') → GoesOnSo caller lanes left old (i + 1) t'
-    lane_more lane e is t' h g horizon made all going =
-        one_more g horizon caller (length old.book.grid.cells) lanes are made all (drop (i + 1) left) (get_or left i d) t (next g horizon made all going) lane e is t' h
+    by_test : (s t : Bool) → s ≡ t → filter_map (route_unless keys) xs ≡ rest
+        → cons_option (if s then None else Some (record { id = id; walk = w })) (filter_map (route_unless keys) xs) ≡ cond (not t) (record { id = id; walk = w } ∷ rest) rest
+    by_test true true e h = h
+    by_test true false e h = absurd (cc)
+    by_test false true e h = absurd (cc)
+    by_test false false e h = ap (λ (l : List Live). record { id = id; walk = w } ∷ l) h
+live_is_rest keys ends has (Made n (E.Cancel id era) ∷ xs) = live_is_rest keys ends has xs
+live_is_rest keys ends has (Made n (E.NoRoute stamp caller era q) ∷ xs) = live_is_rest keys ends has xs
+live_is_rest keys ends has (Gone n t ∷ xs) = live_is_rest keys ends has xs

@@ -10,5 +10,7 @@ mod finishing;
 mod ids;
 mod lane;
 mod leaving;
+#[cfg(test)]
+mod tests;
 
 pub use finishing::finish;

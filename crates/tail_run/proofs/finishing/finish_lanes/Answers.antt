@@ -1,5 +1,5 @@
 use Rattle.std.proofs.Common.{rules, refl}
-use Rattle.tail_run.proofs.LoopLemmas.{at_end, lane_there, lane_may, lane_few, lane_start, lane_more}
+use Rattle.tail_run.proofs.LanesLemmas.{at_end, lane_there, lane_may, lane_few, lane_start, lane_more}
 use Rattle.tail_run.proofs.finishing.finish_lanes.Goals as goal
 
 pub bounds-lanes-one : goal.bounds-lanes-one

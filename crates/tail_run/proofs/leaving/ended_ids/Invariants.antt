@@ -1,4 +1,4 @@
-use Rattle.std.proofs.Common.{◌≡◌, ◌≤◌, length, take}
+use Rattle.std.proofs.Common.{◌≤◌, length, take}
 use Rattle.tail_run.specs.Leaving.{ended_ids, HasIds}
 use Rattle.tail_run.proofs.leaving.ended_ids.Given as goal
 
