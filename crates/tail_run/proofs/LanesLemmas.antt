@@ -1,21 +1,30 @@
--- The loop over the lanes that were left: each is answered in what the lanes before it came to.
+-- The whole tail: it begins, answers each lane that was left in what the lanes before it came to, and ends.
 use Rattle.std.proofs.Common.{◌≡◌, ℕ, ◌+◌, ◌<◌, ◌≤◌, List, [], ◌∷◌, length, get_or, drop, Some, refl, sym, ap, ◌∙◌, subst, arith}
-use Rattle.std.specs.Prelude.{All, slice_get}
+use Rattle.std.specs.Prelude.{All, slice_get, IsPermutation}
 use Rattle.std.proofs.lemmas.List.{length-append, drop_more, drop_all}
 use Rattle.std.proofs.lemmas.Option.{slice_get_within, slice_get-get_or}
+use Rattle.fleet_base.specs.declared.request.Live.{Live}
 use Rattle.fleet_base.specs.Terrain.{Terrain}
+use Rattle.fleet_base.specs.History.{nothing}
+use Rattle.fleet_base.proofs.JournalLaw.{legal-from_strong}
 use Rattle.order_text.specs.declared.lane.Lane.{Lane}
 use Rattle.order_text.specs.Lanes.{all_orders, after_lane, IsLane, AreLanes}
 use Rattle.lane_runs.specs.declared.answer.Answer.{Answer}
 use Rattle.lane_runs.specs.declared.answer.Left.{Left}
+use Rattle.lane_runs.specs.Answers.{order_of}
+use Rattle.plain_book.specs.Resuming.{AreLive, HasRoutes}
 use Rattle.journal_lines.proofs.Numbering.{All-at}
 use Rattle.planner_pool.specs.Runs.{IsLeftOf}
 use Rattle.planner_pool.proofs.RunLemmas.{left_is}
 use Rattle.tail_run.specs.declared.lane.Tail.{Tail}
+use Rattle.tail_run.specs.Ids.{ids_of}
+use Rattle.tail_run.specs.Leaving.{live_after, top_stamp, ended_count}
+use Rattle.tail_run.specs.Finished.{HasBegun, IsFinished}
 use Rattle.tail_run.specs.Tails.{IsStart, IsAtPlace, IsGoing, AreAtEnd}
+use Rattle.tail_run.proofs.LeavingLemmas.{live_are}
 use Rattle.tail_run.proofs.KeepingLemmas.{same_some}
-use Rattle.tail_run.proofs.GivenLemmas.{few_answers, ids_long, lane_end}
-use Rattle.tail_run.proofs.GoingLemmas.{going_start, going_more}
+use Rattle.tail_run.proofs.GivenLemmas.{few_answers, orders_within, ids_long, lane_end}
+use Rattle.tail_run.proofs.GoingLemmas.{going_begins, going_start, going_more, going_ends, nothing_left}
 
 -- one lane, the first of those that are still left
 module _ (g : Terrain) (horizon caller cells : ℕ) (lanes : List Lane) (are : AreLanes cells lanes) (made : List Answer) (all later : List Left) (l : Left) (t : Tail)
@@ -105,3 +114,31 @@ module _ (caller : ℕ) (lanes : List Lane) (left : List Left) (old t : Tail) (i
         → ((xs : List Answer) → IsStart lane xs (get_or left i d).from t → IsAtPlace caller lane xs t (length lane.orders) t') → GoesOnSo caller lanes left old (i + 1) t'
     lane_more lane e is t' h g horizon made all going =
         one_more g horizon caller (length old.book.grid.cells) lanes are made all (drop (i + 1) left) (get_or left i d) t (next g horizon made all going) lane e is t' h
+
+-- ---- before the loop and after it
+
+module _ (g : Terrain) (horizon cells : ℕ) (lanes : List Lane) (are : AreLanes cells lanes) (made : List Answer) where
+  module _ (routes : List Live) (stamp : ℕ) (routes_are : routes ≡ live_after made) (stamp_is : stamp ≡ top_stamp made) where
+    -- a book can go on from the live routes of the answers
+    pub may_resume : (left : List Left) → HasBegun g horizon lanes made left → AreLive g horizon routes stamp
+    may_resume left begun =
+        subst (λ (z : List Live × ℕ). AreLive g horizon z.0 z.1) (λ i. (sym routes_are i, sym stamp_is i))
+        (live_are g horizon made begun.list (legal-from_strong g horizon begun.list nothing begun.strong) begun.holds.entries)
+
+    pub begins : (era : ℕ) (t : Tail) → era ≡ ended_count made → HasRoutes t.book g horizon routes stamp era → t.ids.items ≡ ids_of (length (all_orders lanes)) made → t.answers.items ≡ made
+        → (caller : ℕ) (left all : List Left) → HasBegun g horizon lanes made left → IsPermutation left all → IsGoing g horizon caller lanes made all all t
+    begins era t era_is has ids answers caller left all begun same =
+        going_begins g horizon caller cells lanes are made left all t begun same
+        (subst (λ (z : List Live × ℕ × ℕ). HasRoutes t.book g horizon z.0 z.1 z.2) (λ i. (routes_are i, stamp_is i, era_is i)) has) ids answers
+
+  pub numbers_within : (left : List Left) → HasBegun g horizon lanes made left → (answers : List Answer) (count : ℕ) → answers ≡ made → count ≡ length (all_orders lanes) → All (λ a. order_of a < count) answers
+  numbers_within left begun answers count answers_are count_is =
+      subst (λ (z : List Answer × ℕ). All (λ a. order_of a < z.1) z.0) (λ i. (sym answers_are i, sym count_is i)) (orders_within cells lanes begun.by_lane made left are begun.run)
+
+  pub finished_none : (caller : ℕ) (left : List Left) → length left ≡ 0 → HasBegun g horizon lanes made left → IsFinished g horizon caller lanes made left made
+  finished_none caller [] none begun = nothing_left g horizon caller cells lanes are made begun
+  finished_none caller (l ∷ left) none begun = absurd (omega arith)
+
+  pub finished : (caller : ℕ) (left all : List Left) (answers : List Answer) → IsPermutation left all → AreAtEnd g horizon caller lanes made all answers → IsFinished g horizon caller lanes made left answers
+  finished caller left all answers same end =
+      subst (λ (xs : List Answer). IsFinished g horizon caller lanes made left xs) (sym end.answers_are) (going_ends g horizon caller cells lanes are made left all end.tail end.going same)
