@@ -1,36 +1,23 @@
 -- The entries of answers, and what of them is behind a book.
-use Rattle.std.proofs.Common.{◌≡◌, ◌≢◌, ℕ, zero, suc, ◌+◌, ◌<◌, ◌≤◌, ◌⊎◌, inl, inr, List, [], ◌∷◌, ◌++◌, length, set, replicate, Option, Some, None, refl, sym, ap, ◌∙◌, subst, arith, append_assoc, append-nil}
-use Rattle.std.specs.Prelude.{All, Contains, IfSome, fold, slice_get, IsPermutation}
-use Rattle.std.proofs.lemmas.List.{length-append}
-use Rattle.std.proofs.lemmas.List.Sums.{fold-append}
-use Rattle.std.proofs.lemmas.List.Elements.{All-nil, All-cons, All-append, All-weaker, All-head, All-tail, filter_map-append}
-use Rattle.std.proofs.lemmas.List.Sorted.{All-permutation, Contains-permutation, IsPermutation-sym, IsPermutation-trans, IsPermutation-append_left, list_any-IsPermutation}
-use Rattle.std.proofs.lemmas.Option.{slice_get_within}
+use Rattle.std.proofs.Common.{◌≡◌, ◌≢◌, ℕ, zero, suc, ◌+◌, ◌≤◌, ◌⊎◌, inl, inr, List, [], ◌∷◌, ◌++◌, length, set, Option, Some, None, refl, sym, ap, ◌∙◌, subst, arith}
+use Rattle.std.specs.Prelude.{All, IfSome, fold, slice_get, IsPermutation}
+use Rattle.std.proofs.lemmas.List.Elements.{All-nil, All-cons, All-head, All-tail, filter_map-append}
+use Rattle.std.proofs.lemmas.List.Sorted.{IsPermutation-append_left}
 use Rattle.fleet_base.specs.declared.request.RouteId.{RouteId}
-use Rattle.fleet_base.specs.declared.request.Live.{Live}
 use Rattle.fleet_base.specs.declared.request.Entry.{Entry}
 use Rattle.fleet_base.specs.declared.request.Entry.TheVariants as E
 use Rattle.fleet_base.specs.Terrain.{Terrain}
-use Rattle.fleet_base.specs.History.{Past, nothing, followed_by, past_of, book_after, same_id, reply_of, era_of, IsLive, IsLegal, IsStrong, IsAllowed, EachFollows}
-use Rattle.fleet_base.specs.Journal.{Precedes, IsInOrder}
+use Rattle.fleet_base.specs.History.{Past, followed_by, reply_of, era_of, IsAllowed, EachFollows}
 use Rattle.fleet_base.proofs.WalkLemmas.{nat_cases}
-use Rattle.fleet_base.proofs.HistoryLemmas.{follows_append, of_replies, era-counts}
-use Rattle.fleet_base.proofs.TailLemmas.{IsPast, AllPairs-append}
+use Rattle.fleet_base.proofs.HistoryLemmas.{era-counts}
+use Rattle.fleet_base.proofs.TailLemmas.{IsPast}
 use Rattle.fleet_base.proofs.Reorder.{Reorder-from_permutation, Reorder-is_permutation}
-use Rattle.order_text.specs.declared.lane.Lane.{Lane}
-use Rattle.order_text.specs.Lanes.{all_orders, after_lane, AreLanes}
 use Rattle.lane_runs.specs.declared.answer.Answer.{Answer}
-use Rattle.lane_runs.specs.declared.answer.Answer.TheVariants.{Made, Gone}
-use Rattle.lane_runs.specs.declared.answer.Left.{Left}
-use Rattle.lane_runs.specs.Answers.{entry_made, entries_made, order_of, Committed}
-use Rattle.plain_book.specs.BookState.{BookState, LeadsTo}
+use Rattle.lane_runs.specs.Answers.{entry_made, entries_made}
+use Rattle.plain_book.specs.BookState.{BookState}
 use Rattle.plain_run.specs.Underway.{IsBehind}
-use Rattle.journal_lines.specs.Printing.{ArePrinted}
-use Rattle.journal_lines.proofs.Numbering.{All-at, All-among, All-from_each}
-use Rattle.tail_run.specs.declared.lane.Tail.{Tail}
-use Rattle.tail_run.specs.Ids.{noted, ids_of, AreIdsOf}
-use Rattle.tail_run.proofs.LeavingLemmas.{Reorder-filter_map, leads, stamps_under, top_few, replies_few, ended_few}
-use Rattle.tail_run.proofs.KeepingLemmas.{each_list, same_some, get_split, made_among, order_at, lanes_in_order}
+use Rattle.tail_run.proofs.LeavingLemmas.{Reorder-filter_map}
+use Rattle.tail_run.proofs.KeepingLemmas.{each_list, same_some}
 
 -- ---- entries of answers
 

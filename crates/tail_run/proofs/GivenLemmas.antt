@@ -1,6 +1,6 @@
 -- The ids that orders were given by the answers of lanes, and how many answers there are.
-use Rattle.std.proofs.Common.{◌≡◌, ◌≢◌, ℕ, zero, suc, ◌+◌, ◌<◌, ◌≤◌, ◌⊎◌, inl, inr, List, [], ◌∷◌, ◌++◌, length, set, replicate, get_or, Option, Some, None, refl, sym, ap, ◌∙◌, subst, arith}
-use Rattle.std.specs.Prelude.{All, Contains, fold, slice_get, IsPermutation}
+use Rattle.std.proofs.Common.{◌≡◌, ◌≢◌, ℕ, zero, suc, ◌+◌, ◌<◌, ◌≤◌, inl, inr, List, [], ◌∷◌, length, set, replicate, Option, Some, None, refl, sym, ap, ◌∙◌, subst, arith}
+use Rattle.std.specs.Prelude.{All, Contains, fold, slice_get}
 use Rattle.std.proofs.lemmas.List.{length-append, length-set, length-replicate, get_or-replicate, get_or-set_same, get_or-set_other}
 use Rattle.std.proofs.lemmas.List.Elements.{All-nil, All-append, All-weaker, All-head, All-tail}
 use Rattle.std.proofs.lemmas.List.Sorted.{Contains-permutation, All-permutation, IsPermutation-sym, length_permutation}
@@ -17,7 +17,7 @@ use Rattle.lane_runs.specs.Answers.{order_of}
 use Rattle.journal_lines.proofs.Numbering.{All-from_each}
 use Rattle.planner_pool.specs.Runs.{IsRunUpTo}
 use Rattle.tail_run.specs.Ids.{noted, ids_of, id_in, AreIdsOf}
-use Rattle.tail_run.proofs.KeepingLemmas.{AreByLane, IsInLane, each_list, later_lanes, by_lanes, in_lane, each_has, order_at, of_lane, found_at, has_at, same_some}
+use Rattle.tail_run.proofs.KeepingLemmas.{AreByLane, each_list, later_lanes, by_lanes, in_lane, each_has, order_at, found_at, has_at, same_some}
 
 -- ---- one answer more
 
@@ -165,15 +165,15 @@ module _ (cells : ℕ) (lanes : List Lane) (by_lane : List (List Answer)) (answe
           let number = (order_at lane.first lane.orders xs j a (run.each k lane xs at answered) here.2).3 in
           let has = found_at answers a (Contains-permutation (each_list by_lane) answers a run.answers_are (each_has by_lane k xs a answered (has_at xs j a here.2))) in
           fold_gives (lane.first + j) (id_in (Some a)) answers start has.0 a
-              (All-from_each (λ b. order_of b ≡ lane.first + j → id_in (Some b) ≡ id_in (Some a)) answers
-              (λ i b there same. ap (λ (c : Answer). id_in (Some c)) (same_some b a (sym (in_this b j within (has_at answers i b there) same) ∙ here.2))))
-              has.1 number empty
+          (All-from_each (λ b. order_of b ≡ lane.first + j → id_in (Some b) ≡ id_in (Some a)) answers
+          (λ i b there same. ap (λ (c : Answer). id_in (Some c)) (same_some b a (sym (in_this b j within (has_at answers i b there) same) ∙ here.2))))
+          has.1 number empty
           ∙ ap (λ (o : Option Answer). Some (id_in o)) (sym here.2)
       | inr past ↦
           fold_stays (lane.first + j) None answers start
-              (All-from_each (λ b. order_of b ≡ lane.first + j → id_in (Some b) ≡ None) answers
-              (λ i b there same. absurd (let e : None ≡ Some b = sym past.1 ∙ in_this b j within (has_at answers i b there) same in cc)))
-              empty
+          (All-from_each (λ b. order_of b ≡ lane.first + j → id_in (Some b) ≡ None) answers
+          (λ i b there same. absurd (let e : None ≡ Some b = sym past.1 ∙ in_this b j within (has_at answers i b there) same in cc)))
+          empty
           ∙ ap (λ (o : Option Answer). Some (id_in o)) (sym past.1)
     ]
       where

@@ -1,29 +1,25 @@
 -- The tail begins, goes on by one lane, and ends.
-use Rattle.std.proofs.Common.{◌≡◌, ◌≢◌, ℕ, zero, suc, ◌+◌, ◌<◌, ◌≤◌, ◌⊎◌, inl, inr, List, [], ◌∷◌, ◌++◌, length, set, replicate, Option, Some, None, refl, sym, ap, ◌∙◌, subst, arith, append_assoc, append-nil}
-use Rattle.std.specs.Prelude.{All, Contains, IfSome, fold, slice_get, IsPermutation}
+use Rattle.std.proofs.Common.{◌≡◌, ◌≢◌, ℕ, suc, ◌+◌, ◌≤◌, inl, inr, List, [], ◌∷◌, ◌++◌, length, set, replicate, Option, Some, None, refl, sym, ap, ◌∙◌, subst, arith, append_assoc, append-nil}
+use Rattle.std.specs.Prelude.{All, fold, slice_get, IsPermutation}
 use Rattle.std.proofs.lemmas.List.{length-append}
 use Rattle.std.proofs.lemmas.List.Sums.{fold-append}
-use Rattle.std.proofs.lemmas.List.Elements.{All-nil, All-cons, All-append, All-weaker, All-head, All-tail, filter_map-append}
-use Rattle.std.proofs.lemmas.List.Sorted.{All-permutation, Contains-permutation, IsPermutation-sym, IsPermutation-trans, IsPermutation-append_left, list_any-IsPermutation}
+use Rattle.std.proofs.lemmas.List.Elements.{All-nil, All-append, All-weaker}
+use Rattle.std.proofs.lemmas.List.Sorted.{All-permutation, Contains-permutation, IsPermutation-sym, IsPermutation-trans, list_any-IsPermutation}
 use Rattle.std.proofs.lemmas.Option.{slice_get_within}
 use Rattle.fleet_base.specs.declared.request.RouteId.{RouteId}
-use Rattle.fleet_base.specs.declared.request.Live.{Live}
 use Rattle.fleet_base.specs.declared.request.Entry.{Entry}
 use Rattle.fleet_base.specs.declared.request.Entry.TheVariants as E
 use Rattle.fleet_base.specs.Terrain.{Terrain}
-use Rattle.fleet_base.specs.History.{Past, nothing, followed_by, past_of, book_after, same_id, reply_of, era_of, IsLive, IsLegal, IsStrong, IsStronglyAllowed, EachFollows}
+use Rattle.fleet_base.specs.History.{Past, nothing, followed_by, past_of, book_after, same_id, IsLive, IsLegal, IsStrong, IsStronglyAllowed, EachFollows}
 use Rattle.fleet_base.specs.Journal.{Precedes, IsInOrder}
-use Rattle.fleet_base.proofs.WalkLemmas.{nat_cases}
 use Rattle.fleet_base.proofs.HistoryLemmas.{follows_append, of_replies}
 use Rattle.fleet_base.proofs.JournalLaw.{legal-from_strong, journal_keeps}
 use Rattle.fleet_base.proofs.TailLemmas.{IsPast, AllPairs-append}
-use Rattle.fleet_base.proofs.Reorder.{Reorder-from_permutation, Reorder-is_permutation}
 use Rattle.order_text.specs.declared.lane.Lane.{Lane}
-use Rattle.order_text.specs.Lanes.{all_orders, after_lane, AreLanes}
+use Rattle.order_text.specs.Lanes.{all_orders, AreLanes}
 use Rattle.lane_runs.specs.declared.answer.Answer.{Answer}
-use Rattle.lane_runs.specs.declared.answer.Answer.TheVariants.{Made, Gone}
 use Rattle.lane_runs.specs.declared.answer.Left.{Left}
-use Rattle.lane_runs.specs.Answers.{entry_made, entries_made, order_of, Committed}
+use Rattle.lane_runs.specs.Answers.{entries_made, order_of}
 use Rattle.lane_runs.specs.Answering.{AreBeingAnswered}
 use Rattle.plain_book.specs.BookState.{BookState, LeadsTo}
 use Rattle.plain_book.specs.Resuming.{HasRoutes}
@@ -31,19 +27,19 @@ use Rattle.plain_run.specs.Underway.{IsBehind}
 use Rattle.journal_lines.specs.Printing.{ArePrinted}
 use Rattle.journal_lines.proofs.Numbering.{All-at, All-among, All-from_each}
 use Rattle.planner_pool.specs.Runs.{IsRunUpTo, IsLeftOf, lanes_left}
-use Rattle.planner_pool.specs.PoolRun.{StandsIn, KeepsEach, Holds, replies_in}
+use Rattle.planner_pool.specs.PoolRun.{StandsIn, Holds, replies_in}
 use Rattle.planner_pool.proofs.StandLemmas.{stands_all}
-use Rattle.planner_pool.proofs.RunLemmas.{whole_run, left_is, lane_done}
+use Rattle.planner_pool.proofs.RunLemmas.{whole_run, lane_done}
 use Rattle.planner_pool.proofs.IdLemmas.{ids_apart}
 use Rattle.planner_pool.proofs.LaneLemmas.{answering_weaker}
 use Rattle.tail_run.specs.declared.lane.Tail.{Tail}
 use Rattle.tail_run.specs.Ids.{noted, ids_of, AreIdsOf}
 use Rattle.tail_run.specs.Leaving.{live_after, top_stamp, ended_count}
 use Rattle.tail_run.specs.Finished.{HasBegun, AreAJournal, IsOfLeft, IsFinished}
-use Rattle.tail_run.specs.Tails.{IsReplyBy, IsStart, GoesOn, IsAtPlace, IsGoing}
+use Rattle.tail_run.specs.Tails.{IsReplyBy, IsStart, GoesOn, IsGoing}
 use Rattle.tail_run.proofs.JournalLemmas.{has_journal, part_in_order}
-use Rattle.tail_run.proofs.LeavingLemmas.{Reorder-filter_map, leads, stamps_under, top_few, replies_few, ended_few}
-use Rattle.tail_run.proofs.KeepingLemmas.{each_list, same_some, get_split, made_among, order_at, lanes_in_order}
+use Rattle.tail_run.proofs.LeavingLemmas.{leads, stamps_under, top_few, replies_few, ended_few}
+use Rattle.tail_run.proofs.KeepingLemmas.{each_list, same_some, made_among, order_at, lanes_in_order}
 use Rattle.tail_run.proofs.PrintedLemmas.{journal_of}
 use Rattle.tail_run.proofs.GivenLemmas.{ids_at, set_here}
 use Rattle.tail_run.proofs.BehindLemmas.{HasStampIn, made_append, made_permutation, of_one, all_entries, get_later, set_cases, all_past, is_behind, behind_more}

@@ -28,7 +28,7 @@ use Rattle.tail_run.proofs.GoingLemmas.{going_begins, going_start, going_more, g
 
 -- one lane, the first of those that are still left
 module _ (g : Terrain) (horizon caller cells : ℕ) (lanes : List Lane) (are : AreLanes cells lanes) (made : List Answer) (all later : List Left) (l : Left) (t : Tail)
-      (going : IsGoing g horizon caller lanes made all (l ∷ later) t) where
+    (going : IsGoing g horizon caller lanes made all (l ∷ later) t) where
   named : IsLeftOf lanes going.by_lane l
   named = left_is lanes going.by_lane t.answers.items (l ∷ later) l going.run (0, omega arith, refl)
 
@@ -100,7 +100,7 @@ module _ (caller : ℕ) (lanes : List Lane) (left : List Left) (old t : Tail) (i
         pub lane_may : IsLane (length t.book.grid.cells) lane × (after_lane lane ≤ length t.ids.items)
         lane_may = (
           subst (λ (g : Terrain). IsLane (length g.cells) lane) (begun.4.grid ∙ sym now.grid) (All-at (IsLane (length old.book.grid.cells)) lanes (get_or left i d).lane lane are.each
-          (at begun.0 begun.1 caller (length old.book.grid.cells) lanes are begun.2 begun.3 (drop (i + 1) left) (get_or left i d) t now lane e is)),
+              (at begun.0 begun.1 caller (length old.book.grid.cells) lanes are begun.2 begun.3 (drop (i + 1) left) (get_or left i d) t now lane e is)),
           has_ids begun.0 begun.1 caller (length old.book.grid.cells) lanes are begun.2 begun.3 (drop (i + 1) left) (get_or left i d) t now lane e is,
         )
 

@@ -1,5 +1,5 @@
 -- A tail while it goes on.
-use Rattle.std.specs.Prelude.{◌≡◌, ℕ, ◌+◌, ◌<◌, ◌≤◌, ◌⊎◌, List, [], ◌∷◌, ◌++◌, length, All, Contains, Option, Some, None, IfSome, fold, slice_get, IsPermutation}
+use Rattle.std.specs.Prelude.{◌≡◌, ℕ, ◌+◌, ◌<◌, ◌≤◌, ◌⊎◌, List, [], ◌∷◌, ◌++◌, length, All, Contains, Some, None, IfSome, fold, slice_get, IsPermutation}
 use Rattle.fleet_base.specs.declared.request.RouteId.{RouteId}
 use Rattle.fleet_base.specs.declared.request.Request.{Request}
 use Rattle.fleet_base.specs.declared.request.Entry.{Entry}
@@ -13,9 +13,9 @@ use Rattle.order_text.specs.Lanes.{all_orders}
 use Rattle.lane_runs.specs.declared.answer.Answer.{Answer}
 use Rattle.lane_runs.specs.declared.answer.Answer.TheVariants.{Made, Gone}
 use Rattle.lane_runs.specs.declared.answer.Left.{Left}
-use Rattle.lane_runs.specs.Answers.{entries_made, order_of, Committed, Refused}
+use Rattle.lane_runs.specs.Answers.{entries_made, order_of, Committed}
 use Rattle.lane_runs.specs.Answering.{AreBeingAnswered}
-use Rattle.plain_book.specs.BookState.{BookState, LeadsTo, IsOnSameGrid}
+use Rattle.plain_book.specs.BookState.{LeadsTo, IsOnSameGrid}
 use Rattle.plain_book.specs.Replies.{IsReplyTo, EndsRoute}
 use Rattle.plain_book.specs.History.{AnswersBook}
 use Rattle.plain_run.specs.Underway.{IsBehind}
