@@ -101,21 +101,21 @@ once_at lanes all run i j a b = places_apart all i j a b (run_apart lanes all ru
 
 -- ---- the answers of the lanes, lane by lane
 
-abbrev each_list : List (List Answer) → List Answer
+abbrev pub each_list : List (List Answer) → List Answer
 each_list by_lane = flat_map (λ (xs : List Answer). xs) by_lane
 
 -- the first orders of each lane have these answers
-record AreByLane (base : ℕ) (lanes : List Lane) (by_lane : List (List Answer)) : Type 0 where
-  numbered : AreNumberedFrom base lanes
-  long : length by_lane ≡ length lanes
-  each : (k : ℕ) (lane : Lane) (xs : List Answer) → slice_get lanes k ≡ Some lane → slice_get by_lane k ≡ Some xs → AreAnswers lane.first lane.orders xs
+pub record AreByLane (base : ℕ) (lanes : List Lane) (by_lane : List (List Answer)) : Type 0 where
+  pub numbered : AreNumberedFrom base lanes
+  pub long : length by_lane ≡ length lanes
+  pub each : (k : ℕ) (lane : Lane) (xs : List Answer) → slice_get lanes k ≡ Some lane → slice_get by_lane k ≡ Some xs → AreAnswers lane.first lane.orders xs
 
-later_lanes : (base : ℕ) (l : Lane) (ls : List Lane) (xs : List Answer) (by_lane : List (List Answer)) → AreByLane base (l ∷ ls) (xs ∷ by_lane) → AreByLane (after_lane l) ls by_lane
+pub later_lanes : (base : ℕ) (l : Lane) (ls : List Lane) (xs : List Answer) (by_lane : List (List Answer)) → AreByLane base (l ∷ ls) (xs ∷ by_lane) → AreByLane (after_lane l) ls by_lane
 later_lanes base l ls xs by_lane by =
     let long = by.long in
     record { numbered = by.numbered.1; long = omega arith; each = λ k lane ys at there. by.each (suc k) lane ys at there }
 
-by_lanes : (cells : ℕ) (lanes : List Lane) (by_lane : List (List Answer)) (answers : List Answer) (left : List Left) → AreLanes cells lanes → IsRunUpTo lanes by_lane answers left
+pub by_lanes : (cells : ℕ) (lanes : List Lane) (by_lane : List (List Answer)) (answers : List Answer) (left : List Left) → AreLanes cells lanes → IsRunUpTo lanes by_lane answers left
     → AreByLane 0 lanes by_lane
 by_lanes cells lanes by_lane answers left are up_to = record { numbered = are.numbered; long = up_to.long; each = up_to.each }
 
@@ -141,7 +141,7 @@ pub unique : (cells : ℕ) (lanes : List Lane) (by_lane : List (List Answer)) (a
 unique cells lanes by_lane answers left are up_to =
     one_answer answers (apart_moved (each_list by_lane) answers up_to.answers_are (lanes_apart 0 lanes by_lane (by_lanes cells lanes by_lane answers left are up_to)).0)
 
-each_has : (by_lane : List (List Answer)) (k : ℕ) (xs : List Answer) (a : Answer) → slice_get by_lane k ≡ Some xs → Contains xs a → Contains (each_list by_lane) a
+pub each_has : (by_lane : List (List Answer)) (k : ℕ) (xs : List Answer) (a : Answer) → slice_get by_lane k ≡ Some xs → Contains xs a → Contains (each_list by_lane) a
 each_has [] k xs a at has = absurd (cc)
 each_has (ys ∷ by_lane) zero xs a at has = Contains-append_left ys (each_list by_lane) a (subst (λ (l : List Answer). Contains l a) (sym (same_some ys xs at)) has)
 each_has (ys ∷ by_lane) (suc k) xs a at has = Contains-append_right ys (each_list by_lane) a (each_has by_lane k xs a at has)
@@ -158,19 +158,19 @@ of_lane cells lanes by_lane answers left are up_to k j lane xs a b at answered h
 -- ---- the lane of an answer
 
 -- the answer stands among those of the lane at this place
-record IsInLane (lane : Lane) (by_lane : List (List Answer)) (k : ℕ) (a : Answer) : Type 0 where
-  xs : List Answer
-  j : ℕ
-  answered : slice_get by_lane k ≡ Some xs
-  at : slice_get xs j ≡ Some a
-  number : order_of a ≡ lane.first + j
+pub record IsInLane (lane : Lane) (by_lane : List (List Answer)) (k : ℕ) (a : Answer) : Type 0 where
+  pub xs : List Answer
+  pub j : ℕ
+  pub answered : slice_get by_lane k ≡ Some xs
+  pub at : slice_get xs j ≡ Some a
+  pub number : order_of a ≡ lane.first + j
 
 pub lane_since : (base : ℕ) (lanes : List Lane) (k : ℕ) (lane : Lane) → AreNumberedFrom base lanes → slice_get lanes k ≡ Some lane → base ≤ lane.first
 lane_since base [] k lane numbered at = absurd (cc)
 lane_since base (l ∷ ls) zero lane numbered at = let first = numbered.0 in omega (arith, ap (λ (z : Lane). z.first) (same_some l lane at))
 lane_since base (l ∷ ls) (suc k) lane numbered at = let first = numbered.0 in omega (arith, lane_since (after_lane l) ls k lane numbered.1 at)
 
-in_lane : (base : ℕ) (lanes : List Lane) (by_lane : List (List Answer)) → AreByLane base lanes by_lane → (i k : ℕ) (a : Answer) (lane : Lane) → slice_get (each_list by_lane) i ≡ Some a
+pub in_lane : (base : ℕ) (lanes : List Lane) (by_lane : List (List Answer)) → AreByLane base lanes by_lane → (i k : ℕ) (a : Answer) (lane : Lane) → slice_get (each_list by_lane) i ≡ Some a
     → slice_get lanes k ≡ Some lane → lane.first ≤ order_of a → order_of a < after_lane lane → IsInLane lane by_lane k a
 in_lane base [] by_lane by i k a lane here at low high = absurd (cc)
 in_lane base (l ∷ ls) [] by i k a lane here at low high = absurd (cc)

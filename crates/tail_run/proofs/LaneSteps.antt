@@ -1,6 +1,6 @@
 -- One order more of a lane that was left.
 use Rattle.std.proofs.Common.{◌≡◌, ◌≢◌, ℕ, zero, suc, ◌+◌, ◌-◌, ◌<◌, ◌≤◌, ◌⊎◌, inl, inr, List, [], ◌∷◌, ◌++◌, length, Option, Some, None, set, refl, sym, ap, ◌∙◌, subst, arith}
-use Rattle.std.specs.Prelude.{All, fold, get_or, slice_get, slice_set}
+use Rattle.std.specs.Prelude.{fold, get_or, slice_get}
 use Rattle.std.proofs.lemmas.List.{length-append, length-set}
 use Rattle.std.proofs.lemmas.List.Elements.{All-nil}
 use Rattle.std.proofs.lemmas.Option.{slice_get_within, slice_get_past, slice_get-get_or}
@@ -16,16 +16,15 @@ use Rattle.order_text.specs.Lanes.{IsLane, IsOrderOn, after_lane}
 use Rattle.lane_runs.specs.declared.answer.Answer.{Answer}
 use Rattle.lane_runs.specs.declared.answer.Answer.TheVariants.{Made, Gone}
 use Rattle.lane_runs.specs.Answers.{order_of, Committed, Refused, IsReplyAt}
-use Rattle.lane_runs.specs.Answering.{NamePlans, AreBeingAnswered}
-use Rattle.lane_runs.proofs.AnswerLemmas.{get_longer, get_cases, target_reply, target_live}
+use Rattle.lane_runs.specs.Answering.{AreBeingAnswered}
+use Rattle.lane_runs.proofs.AnswerLemmas.{target_reply, target_live}
 use Rattle.lane_runs.proofs.NameLemmas.{lane_names}
 use Rattle.lane_runs.proofs.NumberLemmas.{slice_get_front}
-use Rattle.plain_book.specs.BookState.{BookState}
 use Rattle.plain_run.specs.Underway.{IsBehind}
 use Rattle.plain_run.proofs.StepLemmas.{same_some}
 use Rattle.tail_run.specs.declared.lane.Tail.{Tail}
 use Rattle.tail_run.specs.Ids.{noted, id_in, AreIdsOf}
-use Rattle.tail_run.specs.Tails.{IsReplyBy, MayBeAnswered, HasKept, HasPlanned, HasGone, HasEnded, AnswersOne, IsStart, GoesOn, IsAtPlace}
+use Rattle.tail_run.specs.Tails.{IsReplyBy, MayBeAnswered, HasKept, AnswersOne, IsStart, GoesOn, IsAtPlace}
 use Rattle.tail_run.proofs.TailSteps.{entry_more, plan_more, ended_more, gone_one_more}
 
 -- ---- ids by their numbers
@@ -162,14 +161,13 @@ module _ (cells caller : ℕ) (lane : Lane) (is_lane : IsLane cells lane) (xs : 
                 there [] k d less = absurd (omega arith)
                 there (x ∷ l) zero d less = refl
                 there (x ∷ l) (suc k) d less = there l k d (omega arith)
-        by_order (Cancel target) is =
-            (
-              slice_get_within now.ids.items target _ (id_at target is),
-              λ id given.
+        by_order (Cancel target) is = (
+          slice_get_within now.ids.items target _ (id_at target is),
+          λ id given.
               let c = committed_in so_far (target - lane.first) id (same_some _ _ (sym (id_at target is) ∙ given)) in
               target_live lane.first lane.orders so_far now.book.stamp (λ other. IsLive other now.book.routes) (λ other. IsLive other now.book.routes) was.goes.answering target id (lane_names cells lane is_lane)
               (at_count ∙ ap (λ (z : Order). Some z) is) c,
-            )
+        )
 
     -- the place after it
     after_one : (a : Answer) (new : Tail) → order_of a ≡ lane.first + place → HasKept now new a → GoesOn caller lane xs old (was.more ++ a ∷ []) new → IsAtPlace caller lane xs old (place + 1) new

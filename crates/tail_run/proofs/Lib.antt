@@ -5,3 +5,7 @@ pub mod KeepingLemmas
 pub mod PrintedLemmas
 pub mod TailSteps
 pub mod LaneSteps
+pub mod GivenLemmas
+pub mod BehindLemmas
+pub mod GoingLemmas
+pub mod LanesLemmas

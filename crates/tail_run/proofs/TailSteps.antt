@@ -1,7 +1,6 @@
 -- One answer more of a lane that goes on in a book of one thread.
-use Rattle.std.proofs.Common.{◌≡◌, ◌≢◌, ℕ, suc, ◌+◌, ◌-◌, ◌<◌, ◌≤◌, inl, inr, Bool, true, false, not, List, [], ◌∷◌, ◌++◌, length, Some, None, refl, sym, ap, ◌∙◌, subst, arith}
+use Rattle.std.proofs.Common.{◌≡◌, ◌≢◌, ℕ, ◌+◌, ◌-◌, ◌<◌, ◌≤◌, inl, inr, Bool, true, false, not, List, [], ◌∷◌, ◌++◌, length, Some, refl, sym, ap, ◌∙◌, subst, arith}
 use Rattle.std.specs.Prelude.{All, IsPermutation, filter, fold, slice_get}
-use Rattle.std.specs.List.{list_any}
 use Rattle.std.proofs.lemmas.List.{length-append, append_assoc}
 use Rattle.std.proofs.lemmas.List.Sums.{fold-append}
 use Rattle.std.proofs.lemmas.List.Elements.{All-push}
@@ -17,22 +16,21 @@ use Rattle.fleet_base.specs.History.{Past, followed_by, reply_of, era_of, same_i
 use Rattle.fleet_base.specs.Journal.{Precedes, IsInOrder}
 use Rattle.fleet_base.proofs.HistoryLemmas.{follows_push}
 use Rattle.order_text.specs.declared.lane.Lane.{Lane}
-use Rattle.order_text.specs.declared.order.Order.{Order}
 use Rattle.order_text.specs.declared.order.Order.TheVariants.{Plan, Cancel}
 use Rattle.lane_runs.specs.declared.answer.Answer.{Answer}
 use Rattle.lane_runs.specs.declared.answer.Answer.TheVariants.{Made, Gone}
-use Rattle.lane_runs.specs.Answers.{entries_made, order_of, Committed, Refused}
+use Rattle.lane_runs.specs.Answers.{entries_made, Committed, Refused}
 use Rattle.lane_runs.specs.Answering.{NamePlans, AreBeingAnswered}
-use Rattle.lane_runs.proofs.AnswerLemmas.{get_longer, answers_commit, answers_refusal, answers_gone, answers_cancel, target_reply, target_live}
+use Rattle.lane_runs.proofs.AnswerLemmas.{get_longer, answers_commit, answers_refusal, answers_gone, answers_cancel}
 use Rattle.plain_book.specs.BookState.{BookState, LeadsTo, IsOnSameGrid}
 use Rattle.plain_book.specs.Replies.{IsCommit, IsRefusal, IsReplyTo, EndsRoute}
 use Rattle.plain_book.specs.History.{AnswersBook}
-use Rattle.plain_book.proofs.Members.{same_id-true, same_id-from}
+use Rattle.plain_book.proofs.Members.{same_id-true}
 use Rattle.plain_run.specs.Underway.{IsBehind}
 use Rattle.plain_run.proofs.StepLemmas.{made_more, gone_more, same_some, behind_first, order_more, behind_still, all_still, live_new, live_still, any_filter, live_others}
 use Rattle.tail_run.specs.declared.lane.Tail.{Tail}
 use Rattle.tail_run.specs.Ids.{noted}
-use Rattle.tail_run.specs.Tails.{IsReplyBy, HasKept, HasPlanned, HasGone, HasEnded, AnswersOne, GoesOn}
+use Rattle.tail_run.specs.Tails.{IsReplyBy, HasKept, HasPlanned, HasEnded, GoesOn}
 
 -- a route that is not the ended one is still live
 live_apart : (id other : RouteId) (old new : List Live) → IsPermutation new (filter (λ r. not (same_id r.id id)) old) → other ≢ id → IsLive other old → IsLive other new
@@ -80,8 +78,7 @@ module _ (caller : ℕ) (lane : Lane) (xs : List Answer) (old : Tail) (more : Li
       let horizon = was.same.horizon in
       let middle : Past = fold followed_by p (entries_made more) in
       let here : IsStronglyAllowed old.book.grid old.book.horizon middle e =
-      subst (λ (z : Terrain × ℕ). IsStronglyAllowed z.0 z.1 middle e) (λ j. (grid j, horizon j)) (history.follows middle before.1) in
-      (
+      subst (λ (z : Terrain × ℕ). IsStronglyAllowed z.0 z.1 middle e) (λ j. (grid j, horizon j)) (history.follows middle before.1) in (
         follows_push (IsStronglyAllowed old.book.grid old.book.horizon) p (entries_made more) e before.0 here,
         subst (λ q. LeadsTo q new.book) (sym (fold-append followed_by p (entries_made more) (e ∷ []))) (history.leads middle before.1),
       )

@@ -1,5 +1,5 @@
 -- A run that several workers began and one finishes.
-use Rattle.std.specs.Prelude.{◌≡◌, ℕ, ◌<◌, ◌≤◌, ◌++◌, List, Some, All, Contains, IfSome, IsPermutation, slice_get}
+use Rattle.std.specs.Prelude.{◌≡◌, ℕ, ◌<◌, ◌≤◌, ◌++◌, List, Some, All, Contains, IfSome, slice_get}
 use Rattle.fleet_base.specs.declared.request.Entry.{Entry}
 use Rattle.fleet_base.specs.Terrain.{Terrain}
 use Rattle.fleet_base.specs.History.{reply_of, IsStrong, IsLegal}

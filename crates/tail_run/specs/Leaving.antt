@@ -4,7 +4,6 @@ use Rattle.std.proofs.Common.{not}
 use Rattle.std.specs.List.{list_any, filter_map}
 use Rattle.fleet_base.specs.declared.request.RouteId.{RouteId}
 use Rattle.fleet_base.specs.declared.request.Live.{Live}
-use Rattle.fleet_base.specs.declared.request.Entry.{Entry}
 use Rattle.fleet_base.specs.declared.request.Entry.TheVariants as E
 use Rattle.fleet_base.specs.History.{same_id}
 use Rattle.lane_runs.specs.declared.answer.Answer.{Answer}

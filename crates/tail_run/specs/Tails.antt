@@ -1,5 +1,5 @@
 -- A tail while it goes on.
-use Rattle.std.specs.Prelude.{◌≡◌, ℕ, ◌+◌, ◌<◌, ◌≤◌, ◌⊎◌, List, [], ◌∷◌, ◌++◌, length, All, Option, Some, None, IfSome, fold, slice_get, IsPermutation}
+use Rattle.std.specs.Prelude.{◌≡◌, ℕ, ◌+◌, ◌<◌, ◌≤◌, ◌⊎◌, List, [], ◌∷◌, ◌++◌, length, All, Contains, Some, None, IfSome, fold, slice_get, IsPermutation}
 use Rattle.fleet_base.specs.declared.request.RouteId.{RouteId}
 use Rattle.fleet_base.specs.declared.request.Request.{Request}
 use Rattle.fleet_base.specs.declared.request.Entry.{Entry}
@@ -13,9 +13,9 @@ use Rattle.order_text.specs.Lanes.{all_orders}
 use Rattle.lane_runs.specs.declared.answer.Answer.{Answer}
 use Rattle.lane_runs.specs.declared.answer.Answer.TheVariants.{Made, Gone}
 use Rattle.lane_runs.specs.declared.answer.Left.{Left}
-use Rattle.lane_runs.specs.Answers.{entries_made, order_of, Committed, Refused}
+use Rattle.lane_runs.specs.Answers.{entries_made, order_of, Committed}
 use Rattle.lane_runs.specs.Answering.{AreBeingAnswered}
-use Rattle.plain_book.specs.BookState.{BookState, LeadsTo, IsOnSameGrid}
+use Rattle.plain_book.specs.BookState.{LeadsTo, IsOnSameGrid}
 use Rattle.plain_book.specs.Replies.{IsReplyTo, EndsRoute}
 use Rattle.plain_book.specs.History.{AnswersBook}
 use Rattle.plain_run.specs.Underway.{IsBehind}
@@ -114,6 +114,7 @@ pub record IsGoing (g : Terrain) (horizon caller : ℕ) (lanes : List Lane) (mad
   pub strong : IsStrong g horizon (list ++ entries_made tail)
   pub leads : LeadsTo (past_of (list ++ entries_made tail)) t.book
   pub run : IsRunUpTo lanes by_lane t.answers.items left
+  pub among : (l : Left) → Contains left l → Contains all l
   pub each : (k : ℕ) (lane : Lane) (xs : List Answer) → slice_get lanes k ≡ Some lane → slice_get by_lane k ≡ Some xs → AreBeingAnswered lane.first lane.orders xs t.book.stamp (λ id. IsLive id t.book.routes)
   pub in_order : (k : ℕ) (xs : List Answer) → slice_get by_lane k ≡ Some xs → IsInOrder (entries_made xs)
   pub behind : All (IsBehind t.book) (list ++ entries_made tail)
@@ -122,3 +123,9 @@ pub record IsGoing (g : Terrain) (horizon caller : ℕ) (lanes : List Lane) (mad
   pub ids : t.ids.items ≡ ids_of (length (all_orders lanes)) t.answers.items
   pub stamps : t.book.stamp ≤ length t.answers.items
   pub eras : t.book.era ≤ length t.answers.items
+
+-- no lane is left of a tail that has come to these answers
+pub record AreAtEnd (g : Terrain) (horizon caller : ℕ) (lanes : List Lane) (made : List Answer) (all : List Left) (answers : List Answer) : Type 0 where
+  pub tail : Tail
+  pub going : IsGoing g horizon caller lanes made all [] tail
+  pub answers_are : answers ≡ tail.answers.items

@@ -1,8 +1,10 @@
-ghost use Rattle.std.specs.Prelude.{◌≤◌, List, ℕ, length, IfOk, IsPermutation};
-ghost use Rattle.lane_runs.specs.declared.answer.Left.{Left as ALeft};
+ghost use Rattle.std.specs.Prelude.{◌≡◌, ℕ, ◌≤◌, List, length, IfOk, IsPermutation};
 ghost use Rattle.order_text.specs.Lanes.{AreLanes};
 ghost use Rattle.tail_run.specs.Finished.{HasBegun, IsFinished};
-ghost use Rattle.tail_run.specs.Tails.{IsGoing};
+ghost use Rattle.fleet_base.specs.Terrain.{Terrain};
+ghost use Rattle.lane_runs.specs.declared.answer.Answer.{Answer as AnAnswer};
+ghost use Rattle.lane_runs.specs.declared.answer.Left.{Left as ALeft};
+ghost use Rattle.tail_run.specs.Tails.{IsGoing, AreAtEnd};
 
 use crate::ids::ids_given;
 use crate::lane::{Tail, finish_lane};
@@ -12,6 +14,56 @@ use lane_runs::{Answer, Left, count_orders};
 use order_text::Lane;
 use plain_book::PlainBook;
 use std::alloc::Global;
+
+// A book that goes on from the live routes of the answers, with the ids that they gave.
+fn begin(
+    alloc: Global,
+    grid: Grid,
+    horizon: u32,
+    lanes: &[Lane],
+    made: Vec<Answer>,
+) -> Result<Tail, Memory>
+    requires horizon { (1 ≤ horizon) × (horizon ≤ 8000) }
+    requires lanes { AreLanes (length grid.cells) lanes.now }
+    requires begun { (left : List ALeft) × HasBegun grid horizon lanes.now made.items left }
+    ensures { IfOk result (λ tail. (caller : ℕ) (left all : List ALeft) → HasBegun grid horizon lanes.now made.items left → IsPermutation left all → IsGoing grid horizon caller lanes.now made.items all all tail) }
+{
+    let routes = live_after(alloc, &made)?;
+    let (stamp, era) = (top_stamp(&made), ended_count(&made));
+    let book = PlainBook::resume(alloc, grid, horizon, routes, stamp, era)?;
+    let ids = ids_given(alloc, count_orders(lanes), &made)?;
+    Ok(Tail {
+        book,
+        ids,
+        answers: made,
+    })
+}
+
+// The lanes that were left, in their order.
+fn in_order(alloc: Global, left: &[Left]) -> Result<Vec<Left>, Memory>
+    ensures { IfOk result (λ sorted. IsPermutation left.now sorted.items) }
+{
+    let mut sorted = left.to_vec(alloc)?;
+    sorted.sort_unstable_by_key(|one| one.lane);
+    Ok(sorted)
+}
+
+// Answers all orders of the lanes that were left.
+fn finish_lanes(
+    mut tail: Tail,
+    caller: u32,
+    lanes: &[Lane],
+    left: &[Left],
+) -> Result<Vec<Answer>, Memory>
+    requires lanes { AreLanes (length tail.book.grid.cells) lanes.now }
+    requires going { (g : Terrain) × (horizon : ℕ) × (made : List AnAnswer) × (all : List ALeft) × IsGoing g horizon caller lanes.now made all left.now tail }
+    ensures { IfOk result (λ answers. (g : Terrain) (horizon : ℕ) (made : List AnAnswer) (all : List ALeft) → IsGoing g horizon caller lanes.now made all left.now tail → AreAtEnd g horizon caller lanes.now made all answers.items) }
+{
+    for one in left {
+        finish_lane(&mut tail, caller, &lanes[one.lane as usize], one.from)?;
+    }
+    Ok(tail.answers)
+}
 
 /// Answers the orders that were left, lane by lane in the order of the lanes, in a book that goes on from the live routes
 /// of the answers that were made. The replies have the number `caller`. Gives all answers, those that were made first.
@@ -29,6 +81,10 @@ pub fn finish(
     requires begun { HasBegun grid horizon lanes.now made.items left.now }
     ensures { IfOk result (λ all. IsFinished grid horizon caller lanes.now made.items left.now all.items) }
 {
-    let _all = (alloc, grid, horizon, caller, lanes, made, left);
-    Err(Memory)
+    if left.is_empty() {
+        return Ok(made);
+    }
+    let tail = begin(alloc, grid, horizon, lanes, made)?;
+    let left = in_order(alloc, left)?;
+    finish_lanes(tail, caller, lanes, &left)
 }

@@ -1,8 +1,6 @@
-use Rattle.std.proofs.Common.{◌≡◌, ◌<◌, ◌∙◌, ap, sym, refl, subst, length, Some}
-use Rattle.std.specs.Prelude.{slice_get, slice_index_or}
-use Rattle.std.proofs.lemmas.Option.{slice_get-get_or}
+use Rattle.std.proofs.Common.{◌<◌, ap, sym, refl, subst, length}
+use Rattle.std.specs.Prelude.{slice_index_or}
 use Rattle.fleet_base.specs.Terrain.{Terrain}
-use Rattle.order_text.specs.declared.order.Order.{Order}
 use Rattle.tail_run.proofs.LaneSteps.{at_first, number_within, may, next, order_there}
 use Rattle.tail_run.proofs.lane.finish_lane.Goals as goal
 

@@ -1,4 +1,4 @@
-use Rattle.std.proofs.Common.{◌≡◌, ◌≤◌, List, length}
+use Rattle.std.proofs.Common.{◌≡◌, List, length}
 use Rattle.lane_runs.specs.declared.answer.Answer.{Answer}
 use Rattle.tail_run.specs.Tails.{IsStart, IsAtPlace}
 use Rattle.tail_run.proofs.lane.finish_lane.Given as goal
