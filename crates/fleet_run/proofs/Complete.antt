@@ -12,6 +12,7 @@ use Rattle.scen_text.specs.declared.fault.ScenKind.{ScenKind}
 use Rattle.scen_text.specs.ScenGrammar.{scenario_of}
 use Rattle.order_text.specs.declared.fault.OrderKind.{OrderKind}
 use Rattle.order_text.specs.OrderGrammar.{orders_of}
+use Rattle.book_trait.specs.Passes.{JoinedView}
 use Rattle.command_line.specs.declared.command.Command.{Command}
 use Rattle.command_line.specs.declared.command.Command.TheVariants.{One, Run, Orders, Gen, Check, Long, Turns}
 use Rattle.command_line.specs.Sorting.{Word}
@@ -22,7 +23,7 @@ use Rattle.fleet_run.specs.declared.stop.Stop.TheVariants as stops
 use Rattle.fleet_run.specs.Stopped.{outcome_of}
 use Rattle.fleet_run.specs.Files.{map_limit, second_limit, IsMapRead, IsMapRefused, IsScenRefused, IsOrdersRefused}
 use Rattle.fleet_run.specs.Due.{AreInside}
-use Rattle.fleet_run.specs.Ended.{World, IsAsked, HasBadMap, HasPlaceOutside, HasBadScenario, HasBadOrders, HasCauseIn, HasStopped, HasStoppedAs, HasEnded}
+use Rattle.fleet_run.specs.Ended.{World, IsAsked, HasBadMap, HasPlaceOutside, HasBadScenario, HasBadOrders, HasCauseIn, HasStopped, HasStoppedAs, HasEndedShort, HasEnded}
 use Rattle.fleet_run.specs.Good.{HasFile, HasMap, HasScenario, HasOrders, AreAccepted, IsGood, Completes}
 
 longer : (xs : List Word) (x : Word) → xs ≡ xs ++ x ∷ [] → ⊥
@@ -127,11 +128,20 @@ stop_completes words u v o (stop, is, cause, out, err) = λ files told good same
     let c = subst (λ (f : Option (List NamedFile)). HasStopped (λ n. n) words f u.failed v.failed stop) told cause in
     inr (is ∙ only_memory words files good u.failed v.failed same stop c)
 
-pub completes : (words : List Word) (u v : World) (o : Outcome) → HasEnded words u v o → Completes words u v o
-completes words u v outcomes.Done h = λ files told good same calm. inl refl
-completes words u v outcomes.WriteFault h = λ files told good same calm. absurd (calm h.1)
-completes words u v outcomes.Usage h = stop_completes words u v outcomes.Usage h
-completes words u v outcomes.MapBad h = stop_completes words u v outcomes.MapBad h
-completes words u v outcomes.OrdersBad h = stop_completes words u v outcomes.OrdersBad h
-completes words u v outcomes.ReadFault h = stop_completes words u v outcomes.ReadFault h
-completes words u v outcomes.Memory h = λ files told good same calm. inr refl
+short_completes : (words : List Word) (u v : World) (o : Outcome) → HasEndedShort words u v o → Completes words u v o
+short_completes words u v outcomes.Done h = absurd h
+short_completes words u v outcomes.WriteFault h = λ files told good same calm. absurd (calm h.1)
+short_completes words u v outcomes.Usage h = stop_completes words u v outcomes.Usage h
+short_completes words u v outcomes.MapBad h = stop_completes words u v outcomes.MapBad h
+short_completes words u v outcomes.OrdersBad h = stop_completes words u v outcomes.OrdersBad h
+short_completes words u v outcomes.ReadFault h = stop_completes words u v outcomes.ReadFault h
+short_completes words u v outcomes.Memory h = λ files told good same calm. inr refl
+
+pub completes : (words : List Word) (u v : World) (o : Outcome) (joined : Option JoinedView) → HasEnded words u v o joined → Completes words u v o
+completes words u v outcomes.Done joined h = λ files told good same calm. inl refl
+completes words u v outcomes.WriteFault joined h = short_completes words u v outcomes.WriteFault h.0
+completes words u v outcomes.Usage joined h = short_completes words u v outcomes.Usage h.0
+completes words u v outcomes.MapBad joined h = short_completes words u v outcomes.MapBad h.0
+completes words u v outcomes.OrdersBad joined h = short_completes words u v outcomes.OrdersBad h.0
+completes words u v outcomes.ReadFault joined h = short_completes words u v outcomes.ReadFault h.0
+completes words u v outcomes.Memory joined h = short_completes words u v outcomes.Memory h.0

@@ -1,8 +1,9 @@
 -- The run by one worker is printed in the order of its orders, and is a journal.
-use Rattle.std.proofs.Common.{◌≡◌, ℕ, zero, suc, ◌+◌, ◌<◌, ◌≤◌, inl, inr, List, [], ◌∷◌, ◌++◌, length, take, get_or, Some, refl, sym, ap, ◌∙◌, subst, arith}
+use Rattle.std.proofs.Common.{◌≡◌, ℕ, zero, suc, ◌+◌, ◌<◌, ◌≤◌, inl, inr, List, [], ◌∷◌, ◌++◌, length, take, get_or, map, Some, None, refl, sym, ap, ◌∙◌, subst, arith}
+use Rattle.std.specs.Borrow.{Bor}
 use Rattle.std.specs.Prelude.{All, slice_get}
 use Rattle.std.specs.List.{concat}
-use Rattle.std.proofs.lemmas.List.{take_more}
+use Rattle.std.proofs.lemmas.List.{take_more, map-append}
 use Rattle.std.proofs.lemmas.List.Sums.{fold-append}
 use Rattle.std.proofs.lemmas.Option.{slice_get-get_or, slice_get_within, slice_get_cases}
 use Rattle.fleet_base.specs.declared.request.Entry.{Entry}
@@ -22,7 +23,9 @@ use Rattle.plain_run.specs.PlainRun.{IsPlainAnswer, IsPlainRun}
 use Rattle.journal_lines.specs.declared.totals.Totals.{Totals}
 use Rattle.journal_lines.specs.Totals.{no_totals, with_answer, totals_of}
 use Rattle.journal_lines.specs.Lines.{journal_lines, last_line}
-use Rattle.journal_lines.specs.Printing.{GoneStandBehind, IsJournalText}
+use Rattle.journal_lines.specs.Printing.{GoneStandBehind}
+use Rattle.tail_run.specs.Finished.{AreAJournal}
+use Rattle.fleet_run.specs.Workers.{AnswerLanes}
 use Rattle.fleet_run.specs.Due.{IsRunText, IsLastLine}
 
 legal_from : (g : Terrain) (horizon : ℕ) (p : Past) (entries : List Entry) → EachFollows (IsStronglyAllowed g horizon) p entries → EachFollows (IsAllowed g horizon) p entries
@@ -69,49 +72,49 @@ module _ (g : Terrain) (horizon : ℕ) (lanes : List Lane) (answers : List Answe
     order = omega (arith, number_at k (Gone n target) (omega (arith, slice_get_within answers (suc k) _ at)), number_is (suc k) _ at);
   }
 
-  pub journal_of : IsRun lanes answers → IsStrong g horizon (entries_made answers) → IsInOrder (entries_made answers) → IsJournalText g horizon lanes (concat (journal_lines g lanes answers))
+  pub journal_of : IsRun lanes answers → IsStrong g horizon (entries_made answers) → IsInOrder (entries_made answers) → AreAJournal g horizon lanes answers
   journal_of run strong in_order = record {
-    printed = answers;
     run = run;
     legal = legal_from g horizon nothing (entries_made answers) strong;
     in_order = in_order;
     keeps = keeps;
     gone = gone;
-    says = refl;
   }
-
-  pub text_of_run : IsRun lanes answers → IsStrong g horizon (entries_made answers) → IsInOrder (entries_made answers) → IsRunText g horizon lanes (concat (journal_lines g lanes answers))
-  text_of_run run strong in_order = record { answers = answers; plain = plain; says = refl; journal = journal_of run strong in_order }
 
 -- ---- in the words of the code
 
-module _ (g : Terrain) (horizon : ℕ) (lanes : List Lane) (answers : List Answer) (book : BookState) (is : book ≡ record { grid = g; horizon = horizon; routes = []; stamp = 0; era = 0 }) where
-  run_text : IsPlainRun book.grid book.horizon (all_orders lanes) answers → IsRun lanes answers → IsStrong book.grid book.horizon (entries_made answers) → IsInOrder (entries_made answers)
-      → IsRunText g horizon lanes (concat (journal_lines g lanes answers))
-  run_text plain run strong in_order =
-      let grid : book.grid ≡ g = ap (λ (b : BookState). b.grid) is in
-      let same : book.horizon ≡ horizon = ap (λ (b : BookState). b.horizon) is in
-      text_of_run g horizon lanes answers (subst (λ (z : Terrain × ℕ). IsPlainRun z.0 z.1 (all_orders lanes) answers) (λ j. (grid j, same j)) plain) run
-      (subst (λ (z : Terrain × ℕ). IsStrong z.0 z.1 (entries_made answers)) (λ j. (grid j, same j)) strong) in_order
+module _ (g : Terrain) (horizon : ℕ) (lanes : List Lane) (answers : List Answer) (book : BookState) (is : book ≡ record { grid = g; horizon = horizon; routes = []; stamp = 0; era = 0 })
+    (plain : IsPlainRun book.grid book.horizon (all_orders lanes) answers) (run : IsRun lanes answers) (strong : IsStrong book.grid book.horizon (entries_made answers)) (in_order : IsInOrder (entries_made answers)) where
+  grid : book.grid ≡ g
+  grid = ap (λ (b : BookState). b.grid) is
 
-  pub journal_text : (new : BookState) → new.grid ≡ book.grid → IsPlainRun book.grid book.horizon (all_orders lanes) answers → IsRun lanes answers → IsStrong book.grid book.horizon (entries_made answers)
-      → IsInOrder (entries_made answers) → IsRunText g horizon lanes (concat (journal_lines new.grid lanes answers))
-  journal_text new kept plain run strong in_order =
-      subst (λ (h : Terrain). IsRunText g horizon lanes (concat (journal_lines h lanes answers))) (sym (kept ∙ ap (λ (b : BookState). b.grid) is)) (run_text plain run strong in_order)
+  same : book.horizon ≡ horizon
+  same = ap (λ (b : BookState). b.horizon) is
 
-  pub last_text : (t : Totals) → t ≡ totals_of answers → IsPlainRun book.grid book.horizon (all_orders lanes) answers → IsRun lanes answers → IsStrong book.grid book.horizon (entries_made answers)
-      → IsInOrder (entries_made answers) → IsLastLine g horizon lanes (last_line t)
-  last_text t counted plain run strong in_order =
-      let text = run_text plain run strong in_order in
-      record {
-        answers = answers;
-        plain = subst (λ (z : Terrain × ℕ). IsPlainRun z.0 z.1 (all_orders lanes) answers) (λ j. (ap (λ (b : BookState). b.grid) is j, ap (λ (b : BookState). b.horizon) is j)) plain;
-        says = ap last_line counted;
-        journal = text.journal;
-      }
+  plain_here : IsPlainRun g horizon (all_orders lanes) answers
+  plain_here = subst (λ (z : Terrain × ℕ). IsPlainRun z.0 z.1 (all_orders lanes) answers) (λ j. (grid j, same j)) plain
+
+  journal_here : AreAJournal g horizon lanes answers
+  journal_here = journal_of g horizon lanes answers plain_here run (subst (λ (z : Terrain × ℕ). IsStrong z.0 z.1 (entries_made answers)) (λ j. (grid j, same j)) strong) in_order
+
+  pub journal_text : (new : BookState) → new.grid ≡ book.grid → (text : List ℕ) → text ≡ concat (journal_lines new.grid lanes answers) → IsRunText g horizon lanes 1 text None
+  journal_text new kept text says = record {
+    printed = answers;
+    journal = journal_here;
+    by = (refl, plain_here);
+    says = says ∙ ap (λ (h : Terrain). concat (journal_lines h lanes answers)) (kept ∙ grid);
+  }
+
+  pub last_text : (t : Totals) → t ≡ totals_of answers → (text : List ℕ) → text ≡ last_line t → IsLastLine g horizon lanes 1 text None
+  last_text t counted text says = record {
+    printed = answers;
+    journal = journal_here;
+    by = (refl, plain_here);
+    says = says ∙ ap last_line counted;
+  }
 
 pub can_be_written : (g : Terrain) (horizon cells : ℕ) (lanes : List Lane) (answers : List Answer) → AreLanes cells lanes → IsPlainRun g horizon (all_orders lanes) answers
-    → AreNumberedFrom 0 lanes × (length answers ≤ 32767) × All (λ a. order_of a < length (all_orders lanes)) answers
+    → AnswerLanes lanes answers
 can_be_written g horizon cells lanes answers are plain =
     let few = are.few_orders in
     (are.numbered, omega (arith, plain.whole), numbers_within g horizon lanes answers plain)
@@ -119,6 +122,7 @@ can_be_written g horizon cells lanes answers are plain =
 pub few_answers : (g : Terrain) (horizon cells : ℕ) (lanes : List Lane) (answers : List Answer) → AreLanes cells lanes → IsPlainRun g horizon (all_orders lanes) answers → length answers ≤ 32767
 few_answers g horizon cells lanes answers are plain = let few = are.few_orders in omega (arith, plain.whole)
 
-pub totals_more : (answers : List Answer) (k : ℕ) (a : Answer) → k < length answers → a ≡ get_or answers k a → totals_of (take (k + 1) answers) ≡ with_answer (totals_of (take k answers)) a
-totals_more answers k a within is =
-    ap totals_of (take_more answers k a within ∙ ap (λ (x : Answer). take k answers ++ x ∷ []) (sym is)) ∙ fold-append with_answer no_totals (take k answers) (a ∷ [])
+pub totals_more : (lent : List (Bor Answer)) (k : ℕ) (a : Bor Answer) → k < length lent → a ≡ get_or lent k a → totals_of (map (λ b. b.now) (take (k + 1) lent)) ≡ with_answer (totals_of (map (λ b. b.now) (take k lent))) a.now
+totals_more lent k a within is =
+    ap (λ l. totals_of (map (λ b. b.now) l)) (take_more lent k a within ∙ ap (λ (x : Bor Answer). take k lent ++ x ∷ []) (sym is)) ∙ ap totals_of (map-append (λ (b : Bor Answer). b.now) (take k lent) (a ∷ []))
+    ∙ fold-append with_answer no_totals (map (λ b. b.now) (take k lent)) (a.now ∷ [])

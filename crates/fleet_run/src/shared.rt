@@ -1,4 +1,4 @@
-ghost use Rattle.std.specs.Prelude.{◌≡◌, ◌≤◌, IfOk, length, List};
+ghost use Rattle.std.specs.Prelude.{◌≡◌, ◌≤◌, ℕ, IfOk, length, List};
 ghost use Rattle.fleet_base.specs.Terrain.{Terrain};
 ghost use Rattle.lane_runs.specs.declared.answer.Answer.{Answer as AnAnswer};
 ghost use Rattle.order_text.specs.Lanes.{AreLanes};
