@@ -39,9 +39,11 @@ of_one P (ys ∷ by_lane) zero xs at h =
 of_one P (ys ∷ by_lane) (suc k) xs at h = of_one P by_lane k xs at (all_parts P (entries_made ys) (entries_made (each_list by_lane)) (subst (All P) (made_append ys (each_list by_lane)) h)).1
 
 -- the entries of all answers are those of the list and those of the tail
-pub all_entries : (made tail answers : List Answer) (list : List Entry) → answers ≡ made ++ tail → IsPermutation (entries_made made) list → IsPermutation (entries_made answers) (list ++ entries_made tail)
+pub all_entries : (made tail answers : List Answer) (list : List Entry) → answers ≡ made ++ tail → IsPermutation (entries_made made) list
+    → IsPermutation (entries_made answers) (list ++ entries_made tail)
 all_entries made tail answers list are same =
-    subst (λ (es : List Entry). IsPermutation es (list ++ entries_made tail)) (sym (ap entries_made are ∙ made_append made tail)) (IsPermutation-append_left (entries_made tail) (entries_made made) list same)
+    subst (λ (es : List Entry). IsPermutation es (list ++ entries_made tail)) (sym (ap entries_made are ∙ made_append made tail))
+    (IsPermutation-append_left (entries_made tail) (entries_made made) list same)
 
 -- ---- places
 

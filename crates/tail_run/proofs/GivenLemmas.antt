@@ -90,7 +90,8 @@ module _ (m : ℕ) (v : Option RouteId) where
   noted_other ids (Made n (E.NoRoute stamp caller era q)) other at = at
   noted_other ids (Gone n t) other at = at
 
-  fold_gives : (xs : List Answer) (ids : List (Option RouteId)) (k : ℕ) (a : Answer) → Give m v xs → slice_get xs k ≡ Some a → order_of a ≡ m → IsAtNumber m None ids → IsAtNumber m v (fold noted ids xs)
+  fold_gives : (xs : List Answer) (ids : List (Option RouteId)) (k : ℕ) (a : Answer) → Give m v xs → slice_get xs k ≡ Some a → order_of a ≡ m → IsAtNumber m None ids
+      → IsAtNumber m v (fold noted ids xs)
   fold_gives [] ids k a gives at is none = absurd (cc)
   fold_gives (b ∷ xs) ids zero a gives at is none =
       let same = same_some b a at in

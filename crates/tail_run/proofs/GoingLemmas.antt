@@ -47,13 +47,14 @@ use Rattle.tail_run.proofs.BehindLemmas.{HasStampIn, made_append, made_permutati
 -- ---- the tail begins
 
 module _ (g : Terrain) (horizon caller cells : ℕ) (lanes : List Lane) (are : AreLanes cells lanes) where
-  parts_in_order : (by_lane : List (List Answer)) (answers : List Answer) (list : List Entry) → Holds lanes by_lane answers list → (k : ℕ) (xs : List Answer) → slice_get by_lane k ≡ Some xs → IsInOrder (entries_made xs)
+  parts_in_order : (by_lane : List (List Answer)) (answers : List Answer) (list : List Entry) → Holds lanes by_lane answers list → (k : ℕ) (xs : List Answer)
+      → slice_get by_lane k ≡ Some xs → IsInOrder (entries_made xs)
   parts_in_order by_lane answers list holds k xs at =
       let j = has_journal list in
       part_in_order (entries_made xs) j.0 (All-at (λ (ys : List Answer). StandsIn (entries_made ys) j.0) by_lane k xs (holds.in_journal j.0 j.1) at) j.1.in_order
 
-  pub going_begins : (made : List Answer) (left all : List Left) (t : Tail) → HasBegun g horizon lanes made left → IsPermutation left all → HasRoutes t.book g horizon (live_after made) (top_stamp made) (ended_count made)
-      → t.ids.items ≡ ids_of (length (all_orders lanes)) made → t.answers.items ≡ made → IsGoing g horizon caller lanes made all all t
+  pub going_begins : (made : List Answer) (left all : List Left) (t : Tail) → HasBegun g horizon lanes made left → IsPermutation left all
+      → HasRoutes t.book g horizon (live_after made) (top_stamp made) (ended_count made) → t.ids.items ≡ ids_of (length (all_orders lanes)) made → t.answers.items ≡ made → IsGoing g horizon caller lanes made all all t
   going_begins made left all t begun same has ids_are answers_are =
       let list = begun.list in
       let by_lane = begun.by_lane in
@@ -101,7 +102,8 @@ module _ (g : Terrain) (horizon caller cells : ℕ) (lanes : List Lane) (are : A
   -- ---- it ends
 
   -- a run of which no lane is left, with the entries of a strong history, is printed as a journal
-  ends_printed : (by_lane : List (List Answer)) (answers : List Answer) (es : List Entry) → IsRunUpTo lanes by_lane answers [] → ((k : ℕ) (xs : List Answer) → slice_get by_lane k ≡ Some xs → IsInOrder (entries_made xs))
+  ends_printed : (by_lane : List (List Answer)) (answers : List Answer) (es : List Entry) → IsRunUpTo lanes by_lane answers []
+      → ((k : ℕ) (xs : List Answer) → slice_get by_lane k ≡ Some xs → IsInOrder (entries_made xs))
       → IsStrong g horizon es → IsPermutation (entries_made answers) es → (printed : List Answer) → ArePrinted answers printed → AreAJournal g horizon lanes printed
   ends_printed by_lane answers es run in_order strong entries printed order =
       let same : IsPermutation es (entries_made printed) =
@@ -110,7 +112,8 @@ module _ (g : Terrain) (horizon caller cells : ℕ) (lanes : List Lane) (are : A
       (journal_keeps g horizon es (entries_made printed) strong record { same = same; in_order = order.in_order }).legal
       (lanes_in_order cells lanes by_lane answers [] are run in_order) order
 
-  pub going_ends : (made : List Answer) (left all : List Left) (t : Tail) → IsGoing g horizon caller lanes made all [] t → IsPermutation left all → IsFinished g horizon caller lanes made left t.answers.items
+  pub going_ends : (made : List Answer) (left all : List Left) (t : Tail) → IsGoing g horizon caller lanes made all [] t → IsPermutation left all
+      → IsFinished g horizon caller lanes made left t.answers.items
   going_ends made left all t going same = record {
     tail = going.tail;
     all_are = going.answers_are;
@@ -201,7 +204,8 @@ module _ (g : Terrain) (horizon caller cells : ℕ) (lanes : List Lane) (are : A
             rising = was.rising;
           }
 
-      each_more : (k : ℕ) (lane : Lane) (xs : List Answer) → slice_get lanes k ≡ Some lane → slice_get after k ≡ Some xs → AreBeingAnswered lane.first lane.orders xs t'.book.stamp (λ id. IsLive id t'.book.routes)
+      each_more : (k : ℕ) (lane : Lane) (xs : List Answer) → slice_get lanes k ≡ Some lane → slice_get after k ≡ Some xs
+          → AreBeingAnswered lane.first lane.orders xs t'.book.stamp (λ id. IsLive id t'.book.routes)
       each_more k lane xs at answered = elim (set_cases going.by_lane l.lane k full xs answered) [
         | inl old ↦ other_lane k lane xs old.0 at old.1 answered
         | inr new ↦

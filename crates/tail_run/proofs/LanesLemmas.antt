@@ -20,7 +20,7 @@ use Rattle.tail_run.specs.declared.lane.Tail.{Tail}
 use Rattle.tail_run.specs.Ids.{ids_of}
 use Rattle.tail_run.specs.Leaving.{live_after, top_stamp, ended_count}
 use Rattle.tail_run.specs.Finished.{HasBegun, IsFinished}
-use Rattle.tail_run.specs.Tails.{IsStart, IsAtPlace, IsGoing, AreAtEnd}
+use Rattle.tail_run.specs.Tails.{IsStart, IsAtPlace, IsGoing, AreAtEnd, IsBeginning, IsGoingOn, ComesTo, ComesToEnd}
 use Rattle.tail_run.proofs.LeavingLemmas.{live_are}
 use Rattle.tail_run.proofs.KeepingLemmas.{same_some}
 use Rattle.tail_run.proofs.GivenLemmas.{few_answers, orders_within, ids_long, lane_end}
@@ -68,17 +68,9 @@ module _ (g : Terrain) (horizon caller cells : ℕ) (lanes : List Lane) (are : A
 
 -- ---- the loop is at place i of those that were left
 
--- what it began with, for some grid, horizon and answers
-abbrev pub HasBegunSo : ℕ → List Lane → List Left → Tail → Type 0
-HasBegunSo caller lanes left t = (g : Terrain) × (horizon : ℕ) × (made : List Answer) × (all : List Left) × IsGoing g horizon caller lanes made all left t
-
--- what it has come to, for each of them
-abbrev pub GoesOnSo : ℕ → List Lane → List Left → Tail → ℕ → Tail → Type 0
-GoesOnSo caller lanes left t i t' = (g : Terrain) (horizon : ℕ) (made : List Answer) (all : List Left) → IsGoing g horizon caller lanes made all left t → IsGoing g horizon caller lanes made all (drop i left) t'
-
-module _ (caller : ℕ) (lanes : List Lane) (left : List Left) (old t : Tail) (i : ℕ) (so_far : GoesOnSo caller lanes left old i t) where
+module _ (caller : ℕ) (lanes : List Lane) (left : List Left) (old t : Tail) (i : ℕ) (so_far : ComesTo caller lanes left old (drop i left) t) where
   -- no lane is left
-  pub at_end : length left ≤ i → (g : Terrain) (horizon : ℕ) (made : List Answer) (all : List Left) → IsGoing g horizon caller lanes made all left old → AreAtEnd g horizon caller lanes made all t.answers.items
+  pub at_end : length left ≤ i → ComesToEnd caller lanes left old t.answers.items
   at_end past g horizon made all going = record {
     tail = t;
     going = subst (λ (ls : List Left). IsGoing g horizon caller lanes made all ls t) (drop_all i left past) (so_far g horizon made all going);
@@ -86,10 +78,10 @@ module _ (caller : ℕ) (lanes : List Lane) (left : List Left) (old t : Tail) (i
   }
 
   module _ (d : Left) (within : i < length left) (are : AreLanes (length old.book.grid.cells) lanes) where
-    next : (g : Terrain) (horizon : ℕ) (made : List Answer) (all : List Left) → IsGoing g horizon caller lanes made all left old → IsGoing g horizon caller lanes made all (get_or left i d ∷ drop (i + 1) left) t
+    next : ComesTo caller lanes left old (get_or left i d ∷ drop (i + 1) left) t
     next g horizon made all going = subst (λ (ls : List Left). IsGoing g horizon caller lanes made all ls t) (drop_more left i d within) (so_far g horizon made all going)
 
-    module _ (begun : HasBegunSo caller lanes left old) where
+    module _ (begun : IsGoingOn caller lanes left old) where
       now : IsGoing begun.0 begun.1 caller lanes begun.2 begun.3 (get_or left i d ∷ drop (i + 1) left) t
       now = next begun.0 begun.1 begun.2 begun.3 begun.4
 
@@ -111,7 +103,7 @@ module _ (caller : ℕ) (lanes : List Lane) (left : List Left) (old t : Tail) (i
         lane_start = starts begun.0 begun.1 caller (length old.book.grid.cells) lanes are begun.2 begun.3 (drop (i + 1) left) (get_or left i d) t now lane e is
 
     pub lane_more : (lane e : Lane) → lane ≡ get_or lanes (get_or left i d).lane e → (t' : Tail)
-        → ((xs : List Answer) → IsStart lane xs (get_or left i d).from t → IsAtPlace caller lane xs t (length lane.orders) t') → GoesOnSo caller lanes left old (i + 1) t'
+        → ((xs : List Answer) → IsStart lane xs (get_or left i d).from t → IsAtPlace caller lane xs t (length lane.orders) t') → ComesTo caller lanes left old (drop (i + 1) left) t'
     lane_more lane e is t' h g horizon made all going =
         one_more g horizon caller (length old.book.grid.cells) lanes are made all (drop (i + 1) left) (get_or left i d) t (next g horizon made all going) lane e is t' h
 
@@ -126,12 +118,13 @@ module _ (g : Terrain) (horizon cells : ℕ) (lanes : List Lane) (are : AreLanes
         (live_are g horizon made begun.list (legal-from_strong g horizon begun.list nothing begun.strong) begun.holds.entries)
 
     pub begins : (era : ℕ) (t : Tail) → era ≡ ended_count made → HasRoutes t.book g horizon routes stamp era → t.ids.items ≡ ids_of (length (all_orders lanes)) made → t.answers.items ≡ made
-        → (caller : ℕ) (left all : List Left) → HasBegun g horizon lanes made left → IsPermutation left all → IsGoing g horizon caller lanes made all all t
+        → IsBeginning g horizon lanes made t
     begins era t era_is has ids answers caller left all begun same =
         going_begins g horizon caller cells lanes are made left all t begun same
         (subst (λ (z : List Live × ℕ × ℕ). HasRoutes t.book g horizon z.0 z.1 z.2) (λ i. (routes_are i, stamp_is i, era_is i)) has) ids answers
 
-  pub numbers_within : (left : List Left) → HasBegun g horizon lanes made left → (answers : List Answer) (count : ℕ) → answers ≡ made → count ≡ length (all_orders lanes) → All (λ a. order_of a < count) answers
+  pub numbers_within : (left : List Left) → HasBegun g horizon lanes made left → (answers : List Answer) (count : ℕ) → answers ≡ made → count ≡ length (all_orders lanes)
+      → All (λ a. order_of a < count) answers
   numbers_within left begun answers count answers_are count_is =
       subst (λ (z : List Answer × ℕ). All (λ a. order_of a < z.1) z.0) (λ i. (sym answers_are i, sym count_is i)) (orders_within cells lanes begun.by_lane made left are begun.run)
 
@@ -139,6 +132,7 @@ module _ (g : Terrain) (horizon cells : ℕ) (lanes : List Lane) (are : AreLanes
   finished_none caller [] none begun = nothing_left g horizon caller cells lanes are made begun
   finished_none caller (l ∷ left) none begun = absurd (omega arith)
 
-  pub finished : (caller : ℕ) (left all : List Left) (answers : List Answer) → IsPermutation left all → AreAtEnd g horizon caller lanes made all answers → IsFinished g horizon caller lanes made left answers
+  pub finished : (caller : ℕ) (left all : List Left) (answers : List Answer) → IsPermutation left all → AreAtEnd g horizon caller lanes made all answers
+      → IsFinished g horizon caller lanes made left answers
   finished caller left all answers same end =
       subst (λ (xs : List Answer). IsFinished g horizon caller lanes made left xs) (sym end.answers_are) (going_ends g horizon caller cells lanes are made left all end.tail end.going same)

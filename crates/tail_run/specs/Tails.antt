@@ -22,7 +22,7 @@ use Rattle.plain_run.specs.Underway.{IsBehind}
 use Rattle.planner_pool.specs.Runs.{IsRunUpTo}
 use Rattle.tail_run.specs.declared.lane.Tail.{Tail}
 use Rattle.tail_run.specs.Ids.{noted, ids_of, AreIdsOf}
-use Rattle.tail_run.specs.Finished.{IsOfLeft}
+use Rattle.tail_run.specs.Finished.{HasBegun, IsOfLeft}
 
 -- a reply has this caller
 abbrev pub IsReplyBy : ℕ → Entry → Type 0
@@ -115,7 +115,8 @@ pub record IsGoing (g : Terrain) (horizon caller : ℕ) (lanes : List Lane) (mad
   pub leads : LeadsTo (past_of (list ++ entries_made tail)) t.book
   pub run : IsRunUpTo lanes by_lane t.answers.items left
   pub among : (l : Left) → Contains left l → Contains all l
-  pub each : (k : ℕ) (lane : Lane) (xs : List Answer) → slice_get lanes k ≡ Some lane → slice_get by_lane k ≡ Some xs → AreBeingAnswered lane.first lane.orders xs t.book.stamp (λ id. IsLive id t.book.routes)
+  pub each : (k : ℕ) (lane : Lane) (xs : List Answer) → slice_get lanes k ≡ Some lane → slice_get by_lane k ≡ Some xs
+      → AreBeingAnswered lane.first lane.orders xs t.book.stamp (λ id. IsLive id t.book.routes)
   pub in_order : (k : ℕ) (xs : List Answer) → slice_get by_lane k ≡ Some xs → IsInOrder (entries_made xs)
   pub behind : All (IsBehind t.book) (list ++ entries_made tail)
   pub by : All (IsReplyBy caller) (entries_made tail)
@@ -129,3 +130,21 @@ pub record AreAtEnd (g : Terrain) (horizon caller : ℕ) (lanes : List Lane) (ma
   pub tail : Tail
   pub going : IsGoing g horizon caller lanes made all [] tail
   pub answers_are : answers ≡ tail.answers.items
+
+-- the tail that begins after these answers, whichever lanes were left, in whatever order
+abbrev pub IsBeginning : Terrain → ℕ → List Lane → List Answer → Tail → Type 0
+IsBeginning g horizon lanes made t = (caller : ℕ) (left all : List Left) → HasBegun g horizon lanes made left → IsPermutation left all → IsGoing g horizon caller lanes made all all t
+
+-- a tail of which these lanes are left, after some answers
+abbrev pub IsGoingOn : ℕ → List Lane → List Left → Tail → Type 0
+IsGoingOn caller lanes left t = (g : Terrain) × (horizon : ℕ) × (made : List Answer) × (all : List Left) × IsGoing g horizon caller lanes made all left t
+
+-- the tail has come from one of which the first lanes were left to one of which the second are, whichever answers were made
+abbrev pub ComesTo : ℕ → List Lane → List Left → Tail → List Left → Tail → Type 0
+ComesTo caller lanes left t left' t' =
+    (g : Terrain) (horizon : ℕ) (made : List Answer) (all : List Left) → IsGoing g horizon caller lanes made all left t → IsGoing g horizon caller lanes made all left' t'
+
+-- the same, of all answers at the end
+abbrev pub ComesToEnd : ℕ → List Lane → List Left → Tail → List Answer → Type 0
+ComesToEnd caller lanes left t answers =
+    (g : Terrain) (horizon : ℕ) (made : List Answer) (all : List Left) → IsGoing g horizon caller lanes made all left t → AreAtEnd g horizon caller lanes made all answers

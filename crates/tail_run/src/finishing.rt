@@ -1,10 +1,8 @@
-ghost use Rattle.std.specs.Prelude.{◌≡◌, ℕ, ◌≤◌, List, length, IfOk, IsPermutation};
+ghost use Rattle.std.specs.Prelude.{◌≤◌, List, length, IfOk, IsPermutation};
 ghost use Rattle.order_text.specs.Lanes.{AreLanes};
-ghost use Rattle.tail_run.specs.Finished.{HasBegun, IsFinished};
-ghost use Rattle.fleet_base.specs.Terrain.{Terrain};
-ghost use Rattle.lane_runs.specs.declared.answer.Answer.{Answer as AnAnswer};
 ghost use Rattle.lane_runs.specs.declared.answer.Left.{Left as ALeft};
-ghost use Rattle.tail_run.specs.Tails.{IsGoing, AreAtEnd};
+ghost use Rattle.tail_run.specs.Finished.{HasBegun, IsFinished};
+ghost use Rattle.tail_run.specs.Tails.{IsBeginning, IsGoingOn, ComesToEnd};
 
 use crate::ids::ids_given;
 use crate::lane::{Tail, finish_lane};
@@ -26,7 +24,7 @@ fn begin(
     requires horizon { (1 ≤ horizon) × (horizon ≤ 8000) }
     requires lanes { AreLanes (length grid.cells) lanes.now }
     requires begun { (left : List ALeft) × HasBegun grid horizon lanes.now made.items left }
-    ensures { IfOk result (λ tail. (caller : ℕ) (left all : List ALeft) → HasBegun grid horizon lanes.now made.items left → IsPermutation left all → IsGoing grid horizon caller lanes.now made.items all all tail) }
+    ensures { IfOk result (λ tail. IsBeginning grid horizon lanes.now made.items tail) }
 {
     let routes = live_after(alloc, &made)?;
     let (stamp, era) = (top_stamp(&made), ended_count(&made));
@@ -56,8 +54,8 @@ fn finish_lanes(
     left: &[Left],
 ) -> Result<Vec<Answer>, Memory>
     requires lanes { AreLanes (length tail.book.grid.cells) lanes.now }
-    requires going { (g : Terrain) × (horizon : ℕ) × (made : List AnAnswer) × (all : List ALeft) × IsGoing g horizon caller lanes.now made all left.now tail }
-    ensures { IfOk result (λ answers. (g : Terrain) (horizon : ℕ) (made : List AnAnswer) (all : List ALeft) → IsGoing g horizon caller lanes.now made all left.now tail → AreAtEnd g horizon caller lanes.now made all answers.items) }
+    requires going { IsGoingOn caller lanes.now left.now tail }
+    ensures { IfOk result (λ answers. ComesToEnd caller lanes.now left.now tail answers.items) }
 {
     for one in left {
         finish_lane(&mut tail, caller, &lanes[one.lane as usize], one.from)?;

@@ -14,7 +14,8 @@ returns-then-is_empty c =
 
 pub finish_lanes-requires-clause-lanes : goal.finish_lanes-requires-clause-lanes
 finish_lanes-requires-clause-lanes c =
-    subst (λ (g : Terrain). AreLanes (length g.cells) c.args.lanes.now) (sym (c.in_ok-tail.ensures c.args.caller c.args.left.now c.in_ok-left.left.items c.requires.begun c.in_ok-left.ensures).grid) c.requires.lanes
+    subst (λ (g : Terrain). AreLanes (length g.cells) c.args.lanes.now)
+    (sym (c.in_ok-tail.ensures c.args.caller c.args.left.now c.in_ok-left.left.items c.requires.begun c.in_ok-left.ensures).grid) c.requires.lanes
 
 pub finish_lanes-requires-clause-going : goal.finish_lanes-requires-clause-going
 finish_lanes-requires-clause-going c = (
@@ -29,7 +30,7 @@ finish_lanes-requires-clause-going c = (
 pub returns : goal.returns
 returns c =
     IfOk-weaker c.finish_lanes.result _ _ (λ (answers : Vec Answer Global) end.
-    finished c.args.grid c.args.horizon (length c.args.grid.cells) c.args.lanes.now c.requires.lanes c.args.made.items c.args.caller c.args.left.now c.in_ok-left.left.items answers.items c.in_ok-left.ensures
-    (end c.args.grid c.args.horizon c.args.made.items c.in_ok-left.left.items
+    finished c.args.grid c.args.horizon (length c.args.grid.cells) c.args.lanes.now c.requires.lanes c.args.made.items c.args.caller c.args.left.now c.in_ok-left.left.items answers.items
+    c.in_ok-left.ensures (end c.args.grid c.args.horizon c.args.made.items c.in_ok-left.left.items
     (subst (λ (ls : List Left). IsGoing c.args.grid c.args.horizon c.args.caller c.args.lanes.now c.args.made.items c.in_ok-left.left.items ls c.in_ok-tail.tail) (sym c.deref.ensures.value)
     (c.in_ok-tail.ensures c.args.caller c.args.left.now c.in_ok-left.left.items c.requires.begun c.in_ok-left.ensures)))) c.finish_lanes.ensures
