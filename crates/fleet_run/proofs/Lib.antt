@@ -2,3 +2,4 @@ pub mod PrepareLemmas
 pub mod RunLemmas
 pub mod WritingLemmas
 pub mod Complete
+pub mod SharedLemmas

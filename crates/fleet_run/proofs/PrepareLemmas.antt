@@ -6,12 +6,15 @@ use Rattle.command_line.specs.declared.command.Command.{Command}
 use Rattle.command_line.specs.declared.command.Command.TheVariants.{One, Run, Orders, Gen, Check, Long, Turns}
 use Rattle.command_line.specs.Sorting.{Word}
 use Rattle.command_line.specs.Words.{command_of}
+use Rattle.std.specs.Prelude.{◌⊎◌, codes}
+use Rattle.fleet_io.specs.Written.{WritesFront}
 use Rattle.fleet_run.specs.declared.outcome.Outcome.{Outcome}
+use Rattle.fleet_run.specs.declared.outcome.Outcome.TheVariants as outcomes
 use Rattle.fleet_run.specs.declared.stop.Stop.{Stop}
 use Rattle.fleet_run.specs.declared.stop.Stop.TheVariants as stops
 use Rattle.fleet_run.specs.Offered.{only_offered, offered_of}
 use Rattle.fleet_run.specs.Stopped.{outcome_of, line_of}
-use Rattle.fleet_run.specs.Ended.{World, GotLine, HasReported, HasEnded, IsAsked, HasCauseIn, HasStopped, HasPrepared, HasPreparedFor, HasPreparedIfOffered}
+use Rattle.fleet_run.specs.Ended.{World, GotLine, HasReported, HasEnded, IsWanted, IsAsked, HasCauseIn, HasStopped, HasPrepared, HasPreparedFor, HasPreparedIfOffered}
 
 -- a cause in the command that the words are
 pub stopped_in : {N : Type 0} (view : N → Word) (words : List Word) (files : Option (List NamedFile)) (c : Command Word) (failed now : List Word) (stop : Stop N)
@@ -66,3 +69,9 @@ stopped {N = N} view words u v stop outcome cause same (inl told) = subst (λ o.
     by_stop (stops.NotFetched name) c l = ((stops.NotFetched (view name), refl, c, same, l), refl)
     by_stop stops.NoMemory c l = (inl (stops.NoMemory, refl, tt, same, l), refl)
 stopped view words u v stop outcome cause same (inr told) = subst (λ o. HasEnded words u v o None) (sym told.0) (inl (stops.NoMemory, refl, tt, same, told.1), refl)
+
+-- memory ran out while a job was written: before any of a text was, or after a front of one
+pub no_memory : (words : List Word) (u v : World) (Text : List ℕ → Type 0) (joined : Option JoinedView) → ((text : List ℕ) → Text text → IsWanted words u.files text joined) → v.failed ≡ u.failed
+    → (v.out ≡ u.out) ⊎ ((text : List ℕ) × Text text × WritesFront u.out text v.out) → GotLine u.err u.err_faults (codes "fleet: out of memory\n") v.err v.err_faults → HasEnded words u v outcomes.Memory None
+no_memory words u v Text joined wanted same (inl nothing) told = (inl (stops.NoMemory, refl, tt, nothing, told), refl)
+no_memory words u v Text joined wanted same (inr (text, is, front)) told = (inr record { text = text; joined = joined; wanted = wanted text is; front = front; told = told; no_name = same }, refl)

@@ -23,8 +23,7 @@ use Rattle.plain_run.specs.PlainRun.{IsPlainAnswer, IsPlainRun}
 use Rattle.journal_lines.specs.declared.totals.Totals.{Totals}
 use Rattle.journal_lines.specs.Totals.{no_totals, with_answer, totals_of}
 use Rattle.journal_lines.specs.Lines.{journal_lines, last_line}
-use Rattle.journal_lines.specs.Printing.{GoneStandBehind}
-use Rattle.tail_run.specs.Finished.{AreAJournal}
+use Rattle.journal_lines.specs.Printing.{GoneStandBehind, AreAJournal}
 use Rattle.fleet_run.specs.Workers.{AnswerLanes}
 use Rattle.fleet_run.specs.Due.{IsRunText, IsLastLine}
 

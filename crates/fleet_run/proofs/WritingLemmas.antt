@@ -1,20 +1,26 @@
 -- A text that is written piece by piece.
-use Rattle.std.proofs.Common.{◌≡◌, ℕ, zero, suc, ◌+◌, ◌<◌, ◌≤◌, length, drop, get_or, List, [], ◌∷◌, ◌++◌, Option, Some, None, Result, Ok, Err, refl, sym, ap, ◌∙◌, subst, arith, append-nil, append_assoc}
-use Rattle.std.specs.Prelude.{OnOk}
+use Rattle.std.proofs.Common.{◌≡◌, ℕ, zero, suc, ◌+◌, ◌<◌, ◌≤◌, inr, length, map, drop, get_or, List, [], ◌∷◌, ◌++◌, Option, Some, None, Result, Ok, Err, refl, sym, ap, ◌∙◌, subst, arith, append-nil, append_assoc}
+use Rattle.std.specs.Borrow.{Bor}
+use Rattle.std.specs.Prelude.{OnOk, All}
 use Rattle.std.specs.List.{concat}
 use Rattle.std.specs.Option.{option_map}
-use Rattle.std.proofs.lemmas.List.{drop_more}
+use Rattle.std.proofs.lemmas.List.{drop_more, length-map, get_or-map}
+use Rattle.std.proofs.lemmas.List.Sorted.{All-permutation, length_permutation}
 use Rattle.fleet_base.specs.Terrain.{Terrain}
 use Rattle.fleet_io.specs.Written.{Writes, WritesFront}
 use Rattle.order_text.specs.declared.lane.Lane.{Lane}
+use Rattle.order_text.specs.Lanes.{all_orders}
 use Rattle.lane_runs.specs.declared.answer.Answer.{Answer}
+use Rattle.lane_runs.specs.Answers.{order_of}
 use Rattle.journal_lines.specs.declared.totals.Totals.{Totals}
 use Rattle.journal_lines.specs.Totals.{with_answer}
 use Rattle.journal_lines.specs.Lines.{answer_line, last_line, lines_from}
 use Rattle.fleet_run.specs.declared.writing.WriteStop.{WriteStop}
 use Rattle.fleet_run.specs.declared.writing.WriteStop.TheVariants.{SinkFailed, NoMemory}
+use Rattle.journal_lines.specs.Printing.{ArePrinted}
 use Rattle.fleet_run.specs.Ended.{HasRisen}
-use Rattle.fleet_run.specs.Writing.{IsWritingOn, IsCut}
+use Rattle.fleet_run.specs.Workers.{AnswerLanes}
+use Rattle.fleet_run.specs.Writing.{IsWritingOn, IsCut, IsCutOf, WritesOne}
 
 writes_nothing : (old : Option (List ℕ)) → Writes old [] old
 writes_nothing None = refl
@@ -101,3 +107,43 @@ module _ (g : Terrain) (lanes : List Lane) (answers : List Answer) (old middle n
       → IsCut middle faults_then (last_line t) new faults_now result → IsCut old faults text new faults_now result
   totals_cut t k result was over cut =
       write_fails old middle new faults faults_then faults_now text (last_line t) [] result (subst (IsWritingOn old faults middle faults_then text) (no_line t k over) was) cut
+
+-- ---- answers that are lent
+
+-- an answer at its place
+pub lent_at : (lent : List (Bor Answer)) (k : ℕ) (a : Bor Answer) → k < length lent → a ≡ get_or lent k a → a.now ≡ get_or (map (λ b. b.now) lent) k a.now
+lent_at lent k a less is = ap (λ (b : Bor Answer). b.now) is ∙ sym (get_or-map (λ (b : Bor Answer). b.now) lent k a a.now less)
+
+pub lent_within : (lanes : List Lane) (lent : List (Bor Answer)) (k : ℕ) (a : Bor Answer) → AnswerLanes lanes (map (λ b. b.now) lent) → k < length lent → a ≡ get_or lent k a → order_of a.now < length (all_orders lanes)
+lent_within lanes lent k a right less is =
+    subst (λ (b : Answer). order_of b < length (all_orders lanes)) (sym (lent_at lent k a less is)) (right.2 k a.now (omega (arith, length-map lent (λ (b : Bor Answer). b.now))))
+
+pub lent_few : (lanes : List Lane) (lent : List (Bor Answer)) → AnswerLanes lanes (map (λ b. b.now) lent) → length lent ≤ 32767
+lent_few lanes lent right = let few = right.1 in omega (arith, length-map lent (λ (b : Bor Answer). b.now))
+
+pub lent_longer : (lent : List (Bor Answer)) (k : ℕ) → k < length lent → k < length (map (λ (b : Bor Answer). b.now) lent)
+lent_longer lent k less = omega (arith, length-map lent (λ (b : Bor Answer). b.now))
+
+pub lent_past : (lent : List (Bor Answer)) (k : ℕ) → length lent ≤ k → length (map (λ (b : Bor Answer). b.now) lent) ≤ k
+lent_past lent k past = omega (arith, length-map lent (λ (b : Bor Answer). b.now))
+
+-- answers that are printed are to orders of the same lanes
+pub printed_lanes : (lanes : List Lane) (answers : List Answer) (printed lent : List (Bor Answer)) → AnswerLanes lanes answers → ArePrinted answers (map (λ b. b.now) printed) → lent ≡ printed → AnswerLanes lanes (map (λ b. b.now) lent)
+printed_lanes lanes answers printed lent right in_order lends =
+    subst (λ l. AnswerLanes lanes (map (λ (b : Bor Answer). b.now) l)) (sym lends)
+    (
+      right.0,
+      omega (arith, right.1, length_permutation answers (map (λ (b : Bor Answer). b.now) printed) in_order.same),
+      All-permutation (λ a. order_of a < length (all_orders lanes)) answers (map (λ (b : Bor Answer). b.now) printed) in_order.same right.2,
+    )
+
+-- ---- a text that is one of some
+
+pub one_written : {T : Type 0} (Text : List ℕ → Type 0) (old new : Option (List ℕ)) (text : List ℕ) (result : Result T WriteStop) → Text text → OnOk result (Writes old text new) → OnOk result (WritesOne Text old new)
+one_written Text old new text (Ok done) is wrote = (text, is, wrote)
+one_written Text old new text (Err stop) is wrote = tt
+
+pub one_cut : {T : Type 0} (Text : List ℕ → Type 0) (old new : Option (List ℕ)) (faults now : ℕ) (text : List ℕ) (result : Result T WriteStop) → Text text → IsCut old faults text new now result → IsCutOf Text old faults new now result
+one_cut Text old new faults now text (Ok done) is cut = tt
+one_cut Text old new faults now text (Err SinkFailed) is cut = ((text, is, cut.0), cut.1)
+one_cut Text old new faults now text (Err NoMemory) is cut = inr (text, is, cut)

@@ -17,7 +17,7 @@ use Rattle.plain_run.specs.PlainRun.{IsPlainRun}
 use Rattle.journal_lines.specs.Totals.{totals_of}
 use Rattle.journal_lines.specs.Lines.{journal_lines, last_line}
 use Rattle.book_trait.specs.Passes.{JoinedView}
-use Rattle.tail_run.specs.Finished.{AreAJournal}
+use Rattle.journal_lines.specs.Printing.{AreAJournal}
 use Rattle.request_maker.specs.Making.{made_grid, made_requests}
 use Rattle.command_line.specs.declared.command.Command.{Command}
 use Rattle.command_line.specs.declared.command.Command.TheVariants.{One, Run, Orders, Gen, Check, Long, Turns}

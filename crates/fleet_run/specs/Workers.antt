@@ -9,8 +9,7 @@ use Rattle.order_text.specs.Lanes.{all_orders, after_lane, AreNumberedFrom}
 use Rattle.lane_runs.specs.declared.answer.Answer.{Answer}
 use Rattle.lane_runs.specs.declared.answer.Answer.TheVariants.{Made}
 use Rattle.lane_runs.specs.Answers.{entries_made, order_of}
-use Rattle.journal_lines.specs.Printing.{AreOfRun, ArePrinted}
-use Rattle.tail_run.specs.Finished.{AreAJournal}
+use Rattle.journal_lines.specs.Printing.{AreOfRun, ArePrinted, AreAJournal}
 use Rattle.book_trait.specs.Passes.{BookView, JoinedView, IsJoined}
 
 -- the order is of one of the lanes at these places

@@ -1,6 +1,5 @@
 -- The order in which the answers of a run are printed, and the whole text.
 use Rattle.std.specs.Prelude.{◌≡◌, ℕ, ◌+◌, List, Some, IsPermutation, slice_get}
-use Rattle.std.specs.List.{concat}
 use Rattle.fleet_base.specs.Terrain.{Terrain}
 use Rattle.fleet_base.specs.History.{IsLegal}
 use Rattle.fleet_base.specs.Journal.{IsInOrder}
@@ -10,7 +9,6 @@ use Rattle.lane_runs.specs.declared.answer.Answer.{Answer}
 use Rattle.lane_runs.specs.declared.answer.Answer.TheVariants.{Gone}
 use Rattle.lane_runs.specs.Answers.{entries_made, order_of}
 use Rattle.lane_runs.specs.Runs.{IsRun, KeepsLanes}
-use Rattle.journal_lines.specs.Lines.{journal_lines}
 
 -- the answer at place k, a cancel that is gone, stands directly after the answer to the order before its own
 pub record StandsBehind (printed : List Answer) (k n : ℕ) : Type 0 where
@@ -36,13 +34,11 @@ pub record AreOfRun (answers : List Answer) : Type 0 where
   pub are : AreLanes cells lanes
   pub run : IsRun lanes answers
 
--- The text is the journal of a run over the lanes: a legal history that is its own journal and keeps the lanes, a line
--- for each order.
-pub record IsJournalText (g : Terrain) (horizon : ℕ) (lanes : List Lane) (text : List ℕ) : Type 0 where
-  pub printed : List Answer
+-- The answers in the order in which they are printed, as a journal: each order of the lanes answered once, a legal history
+-- that is its own journal and keeps the lanes, and each cancel that is gone directly behind the order before its own.
+pub record AreAJournal (g : Terrain) (horizon : ℕ) (lanes : List Lane) (printed : List Answer) : Type 0 where
   pub run : IsRun lanes printed
   pub legal : IsLegal g horizon (entries_made printed)
   pub in_order : IsInOrder (entries_made printed)
   pub keeps : KeepsLanes lanes printed
   pub gone : GoneStandBehind printed
-  pub says : text ≡ concat (journal_lines g lanes printed)

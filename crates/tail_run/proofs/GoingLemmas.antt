@@ -24,7 +24,7 @@ use Rattle.lane_runs.specs.Answering.{AreBeingAnswered}
 use Rattle.plain_book.specs.BookState.{BookState, LeadsTo}
 use Rattle.plain_book.specs.Resuming.{HasRoutes}
 use Rattle.plain_run.specs.Underway.{IsBehind}
-use Rattle.journal_lines.specs.Printing.{ArePrinted}
+use Rattle.journal_lines.specs.Printing.{ArePrinted, AreAJournal}
 use Rattle.journal_lines.proofs.Numbering.{All-at, All-among, All-from_each}
 use Rattle.planner_pool.specs.Runs.{IsRunUpTo, IsLeftOf, lanes_left}
 use Rattle.planner_pool.specs.PoolRun.{StandsIn, Holds, replies_in}
@@ -35,7 +35,7 @@ use Rattle.planner_pool.proofs.LaneLemmas.{answering_weaker}
 use Rattle.tail_run.specs.declared.lane.Tail.{Tail}
 use Rattle.tail_run.specs.Ids.{noted, ids_of, AreIdsOf}
 use Rattle.tail_run.specs.Leaving.{live_after, top_stamp, ended_count}
-use Rattle.tail_run.specs.Finished.{HasBegun, AreAJournal, IsOfLeft, IsFinished}
+use Rattle.tail_run.specs.Finished.{HasBegun, IsOfLeft, IsFinished}
 use Rattle.tail_run.specs.Tails.{IsReplyBy, IsStart, GoesOn, IsGoing}
 use Rattle.tail_run.proofs.JournalLemmas.{has_journal, part_in_order}
 use Rattle.tail_run.proofs.LeavingLemmas.{leads, stamps_under, top_few, replies_few, ended_few}
@@ -117,6 +117,7 @@ module _ (g : Terrain) (horizon caller cells : ℕ) (lanes : List Lane) (are : A
   going_ends made left all t going same = record {
     tail = going.tail;
     all_are = going.answers_are;
+    run = whole_run cells lanes going.by_lane t.answers.items are going.run;
     journal = ends_printed going.by_lane t.answers.items (going.list ++ entries_made going.tail) going.run going.in_order going.strong
         (all_entries made going.tail t.answers.items going.list going.answers_are going.entries);
     by = going.by;
@@ -137,6 +138,7 @@ module _ (g : Terrain) (horizon caller cells : ℕ) (lanes : List Lane) (are : A
   nothing_left made begun = record {
     tail = [];
     all_are = sym (append-nil made);
+    run = whole_run cells lanes begun.by_lane made are begun.run;
     journal = ends_printed begun.by_lane made begun.list begun.run (parts_in_order begun.by_lane made begun.list begun.holds) begun.strong begun.holds.entries;
     by = All-nil (IsReplyBy caller);
     of_left = All-nil (λ a. IsOfLeft lanes [] (order_of a));

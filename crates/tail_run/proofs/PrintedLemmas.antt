@@ -20,9 +20,9 @@ use Rattle.lane_runs.specs.declared.answer.Answer.TheVariants.{Made, Gone}
 use Rattle.lane_runs.specs.Answers.{entries_made, order_of, Fits}
 use Rattle.lane_runs.specs.Runs.{IsRun, KeepsLanes}
 use Rattle.lane_runs.proofs.NameLemmas.{lane_names}
-use Rattle.journal_lines.specs.Printing.{ArePrinted}
+use Rattle.journal_lines.specs.Printing.{AreAJournal, ArePrinted}
 use Rattle.journal_lines.proofs.Numbering.{Pairs, All-at}
-use Rattle.tail_run.specs.Finished.{LanesInOrder, AreAJournal}
+use Rattle.tail_run.specs.Finished.{LanesInOrder}
 use Rattle.tail_run.proofs.KeepingLemmas.{Apart, same_some, found_at, has_at, get_split, order_at, apart_moved, places_apart, run_apart, lane_since, made_pairs, in_order_pairs}
 
 -- ---- no two entries of a legal history have the same key

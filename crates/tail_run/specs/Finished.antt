@@ -2,16 +2,16 @@
 use Rattle.std.specs.Prelude.{◌≡◌, ℕ, ◌<◌, ◌≤◌, ◌++◌, List, Some, All, Contains, IfSome, slice_get}
 use Rattle.fleet_base.specs.declared.request.Entry.{Entry}
 use Rattle.fleet_base.specs.Terrain.{Terrain}
-use Rattle.fleet_base.specs.History.{reply_of, IsStrong, IsLegal}
-use Rattle.fleet_base.specs.Journal.{Precedes, IsInOrder}
+use Rattle.fleet_base.specs.History.{reply_of, IsStrong}
+use Rattle.fleet_base.specs.Journal.{Precedes}
 use Rattle.order_text.specs.declared.lane.Lane.{Lane}
 use Rattle.order_text.specs.Lanes.{after_lane}
 use Rattle.lane_runs.specs.declared.answer.Answer.{Answer}
 use Rattle.lane_runs.specs.declared.answer.Answer.TheVariants.{Made}
 use Rattle.lane_runs.specs.declared.answer.Left.{Left}
 use Rattle.lane_runs.specs.Answers.{entries_made, order_of}
-use Rattle.lane_runs.specs.Runs.{IsRun, AreOfOneLane, KeepsLanes}
-use Rattle.journal_lines.specs.Printing.{ArePrinted, GoneStandBehind}
+use Rattle.lane_runs.specs.Runs.{IsRun, AreOfOneLane}
+use Rattle.journal_lines.specs.Printing.{ArePrinted, AreAJournal}
 use Rattle.planner_pool.specs.PoolRun.{Holds}
 use Rattle.planner_pool.specs.Runs.{IsRunUpTo}
 
@@ -23,15 +23,6 @@ pub record HasBegun (g : Terrain) (horizon : ℕ) (lanes : List Lane) (answers :
   pub strong : IsStrong g horizon list
   pub run : IsRunUpTo lanes by_lane answers left
   pub holds : Holds lanes by_lane answers list
-
--- The answers in the order in which they are printed: each order answered once, a legal history that is its own journal and
--- keeps the lanes, and each cancel that is gone directly behind the answer to the order before its own.
-pub record AreAJournal (g : Terrain) (horizon : ℕ) (lanes : List Lane) (printed : List Answer) : Type 0 where
-  pub run : IsRun lanes printed
-  pub legal : IsLegal g horizon (entries_made printed)
-  pub in_order : IsInOrder (entries_made printed)
-  pub keeps : KeepsLanes lanes printed
-  pub gone : GoneStandBehind printed
 
 -- of two entries of one lane that of the earlier order comes first in the order of the journal
 abbrev pub LanesInOrder : List Lane → List Answer → Type 0
@@ -47,10 +38,11 @@ pub record IsOfLeft (lanes : List Lane) (left : List Left) (order : ℕ) : Type 
   pub before_end : order < after_lane lane
 
 -- All answers are those that were made, and those of a tail. The tail answers orders that were left, and its replies have
--- this caller. In the order of print all of them are a journal.
+-- this caller. Each order has one answer, and in the order of print all of them are a journal.
 pub record IsFinished (g : Terrain) (horizon caller : ℕ) (lanes : List Lane) (made : List Answer) (left : List Left) (all : List Answer) : Type 0 where
   pub tail : List Answer
   pub all_are : all ≡ made ++ tail
+  pub run : IsRun lanes all
   pub journal : (printed : List Answer) → ArePrinted all printed → AreAJournal g horizon lanes printed
   pub by : All (λ e. IfSome (reply_of e) (λ id. id.caller ≡ caller)) (entries_made tail)
   pub of_left : All (λ a. IsOfLeft lanes left (order_of a)) tail

@@ -20,6 +20,6 @@ returns-in_err-requests-clause-prepared g c =
     (c.in_err-requests.ensures.cause c.args.map.now c.args.workers c.args.horizon (subst (λ f. IsMapRead f c.args.map.now c.in_ok-grid.grid) (sym c.in_ok-grid.ensures.told) c.in_ok-grid.ensures.loaded.0)))
 
 pub journal_by-requires-clause-lanes : goal.journal_by-requires-clause-lanes
-journal_by-requires-clause-lanes g c =
+journal_by-requires-clause-lanes g c κs within =
     subst (AreLanes (length c.in_ok-grid.grid.cells)) (sym (c.in-Ok.ensures ∙ ap (request_lanes 0) c.deref.ensures.value))
     (request_lanes_right (length c.in_ok-grid.grid.cells) c.in_ok-requests.requests.items c.in_ok-requests.ensures.few c.in_ok-requests.ensures.on_grid)
