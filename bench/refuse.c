@@ -1,17 +1,20 @@
-// Makes one call for memory fail: the call of number FLEET_REFUSE, counted from 1. Preloaded by bench/refuse.
+// Makes one call for memory or for a thread fail: the call of number FLEET_REFUSE, counted from 1 over all threads.
+// Preloaded by bench/refuse.
 #define _GNU_SOURCE
 #include <dlfcn.h>
 #include <errno.h>
+#include <pthread.h>
+#include <stdatomic.h>
 #include <stdlib.h>
 
-static long calls, refused = -1;
+static atomic_long calls, refused = -1;
 
 static int is_refused(void) {
     if (refused < 0) {
         const char *number = getenv("FLEET_REFUSE");
         refused = number ? atol(number) : 0;
     }
-    return ++calls == refused;
+    return atomic_fetch_add(&calls, 1) + 1 == refused;
 }
 
 #define WRAP(type, name, params, args)                                  \
@@ -32,3 +35,9 @@ int posix_memalign(void **block, size_t align, size_t size) {
 }
 
 WRAP(void *, aligned_alloc, (size_t align, size_t size), (align, size))
+
+int pthread_create(pthread_t *thread, const pthread_attr_t *how, void *(*work)(void *), void *with) {
+    static int (*real)(pthread_t *, const pthread_attr_t *, void *(*)(void *), void *);
+    if (!real) real = (int (*)(pthread_t *, const pthread_attr_t *, void *(*)(void *), void *))dlsym(RTLD_NEXT, "pthread_create");
+    return is_refused() ? EAGAIN : real(thread, how, work, with);
+}

@@ -1,9 +1,10 @@
-// The program `fleet`: the words after its name, the real files and the two standard streams, handed to the top call.
-// What it makes of them is the top call's contract; the exit status is the number of the outcome.
+// The program `fleet`: the words after its name, the real files and the two standard streams, handed to the top call,
+// with the threads of the host and a gate that holds nobody up. What it makes of them is the top call's contract; the exit
+// status is the number of the outcome.
 #![tactic(auto)]
 
 use fleet_io::{FileShelf, Sink, StdSink};
-use fleet_run::{Outcome, fleet};
+use fleet_run::{OpenGate, Outcome, fleet};
 use std::env;
 use std::io::{self, ErrorKind};
 use std::process::ExitCode;
@@ -31,6 +32,8 @@ fn main(rt: HostRuntime) -> ExitCode {
         // A word that isn't UTF-8: the line is no command, as the empty one.
         Err(_) => Vec::new(alloc),
     };
-    let outcome = fleet(alloc, &words, &mut shelf, &mut out, &mut err);
-    ExitCode::from(outcome as u8)
+    let ended = fleet(
+        &rt, alloc, &words, &mut shelf, &mut out, &mut err, &OpenGate,
+    );
+    ExitCode::from(ended.outcome as u8)
 }

@@ -3,8 +3,9 @@ ghost use Rattle.fleet_run.specs.declared.outcome.Outcome.TheVariants.{Done};
 
 use fleet_base::Memory;
 use fleet_io::{MemShelf, MemSink};
-use fleet_run::{Outcome, fleet};
+use fleet_run::{Gate, OpenGate, Outcome, fleet};
 use std::alloc::Global;
+use std::thread::Threads;
 
 /// A map of three open cells in one row.
 pub const CORRIDOR: &str = "type octile\nheight 1\nwidth 3\nmap\n...\n";
@@ -23,10 +24,11 @@ pub const NOTHING_FAILS: Failing<'static> = Failing {
     err: &[],
 };
 
-/// What a call left: its outcome, and the two sinks.
+/// What a call left: its outcome, whether several workers joined for it, and the two sinks.
 #[derive(Drop)]
 pub struct Ended {
     pub outcome: Outcome,
+    pub has_joined: bool,
     pub out: MemSink,
     pub err: MemSink,
 }
@@ -74,12 +76,14 @@ fn shelf_of(alloc: Global, files: Files<'_>, failing: &[u32]) -> Result<MemShelf
     Ok(MemShelf::new(alloc, named, Vec::from_slice(alloc, failing)?))
 }
 
-/// The call of a line, whose words are parted by single spaces, with two files.
-pub fn call_on(
+/// The call of a line, whose words are parted by single spaces, with two files and a gate.
+pub fn call_through<R: Threads + Sync, G: Gate>(
+    rt: &R,
     alloc: Global,
     line: &str,
     files: Files<'_>,
     failing: Failing<'_>,
+    gate: &G,
 ) -> Result<Ended, Memory>
     ensures { IfOk result (λ e. e.outcome ≡ Done → e.err.bytes ≡ []) }
 {
@@ -87,12 +91,36 @@ pub fn call_on(
     let mut shelf = shelf_of(alloc, files, failing.fetches)?;
     let mut out = sink(alloc, failing.out)?;
     let mut err = sink(alloc, failing.err)?;
-    let outcome = fleet(alloc, &words, &mut shelf, &mut out, &mut err);
-    Ok(Ended { outcome, out, err })
+    let ended = fleet(rt, alloc, &words, &mut shelf, &mut out, &mut err, gate);
+    Ok(Ended {
+        outcome: ended.outcome,
+        has_joined: ended.joined.is_some(),
+        out,
+        err,
+    })
+}
+
+/// The same with a gate that holds nobody up.
+pub fn call_on<R: Threads + Sync>(
+    rt: &R,
+    alloc: Global,
+    line: &str,
+    files: Files<'_>,
+    failing: Failing<'_>,
+) -> Result<Ended, Memory>
+    ensures { IfOk result (λ e. e.outcome ≡ Done → e.err.bytes ≡ []) }
+{
+    call_through(rt, alloc, line, files, failing, &OpenGate)
 }
 
 /// The same with a map alone.
-pub fn call(alloc: Global, line: &str, map: &[u8], failing: Failing<'_>) -> Result<Ended, Memory>
+pub fn call<R: Threads + Sync>(
+    rt: &R,
+    alloc: Global,
+    line: &str,
+    map: &[u8],
+    failing: Failing<'_>,
+) -> Result<Ended, Memory>
     ensures { IfOk result (λ e. e.outcome ≡ Done → e.err.bytes ≡ []) }
 {
     let files = Files {
@@ -100,5 +128,5 @@ pub fn call(alloc: Global, line: &str, map: &[u8], failing: Failing<'_>) -> Resu
         second_name: "o.txt",
         second: b"",
     };
-    call_on(alloc, line, files, failing)
+    call_on(rt, alloc, line, files, failing)
 }

@@ -51,7 +51,7 @@ fn a_refusal_writes_its_line(rt: HostRuntime) -> Result<(), Fail> {
             "fleet: cannot read n.map\n",
         ),
     ] {
-        let ended = call(rt.alloc(), line, map.as_bytes(), NOTHING_FAILS)?;
+        let ended = call(&rt, rt.alloc(), line, map.as_bytes(), NOTHING_FAILS)?;
         assert_eq!(rt; ended.outcome as u32, status, "at {line}");
         assert!(rt; ended.out.bytes().is_empty(), "at {line}");
         assert_eq!(rt; ended.err.bytes(), wanted.as_bytes(), "at {line}");
@@ -78,7 +78,13 @@ fn calls_that_fail(rt: HostRuntime) -> Result<(), Fail> {
         (CORRIDOR, out, 6, "fleet: cannot write\n"),
         (SHORT_ROW, err, 3, ""),
     ] {
-        let ended = call(rt.alloc(), "one m.map 0 0 2 0", map.as_bytes(), failing)?;
+        let ended = call(
+            &rt,
+            rt.alloc(),
+            "one m.map 0 0 2 0",
+            map.as_bytes(),
+            failing,
+        )?;
         assert_eq!(rt; ended.outcome as u32, status, "at {wanted}");
         assert!(rt; ended.out.bytes().is_empty(), "at {wanted}");
         assert_eq!(rt; ended.err.bytes(), wanted.as_bytes(), "at {wanted}");
@@ -104,7 +110,7 @@ fn bytes_that_are_no_map(rt: HostRuntime) -> Result<(), Fail> {
             "fleet: map line 2: BadNumber\n",
         ),
     ] {
-        let ended = call(rt.alloc(), "one m.map 0 0 0 0", map, NOTHING_FAILS)?;
+        let ended = call(&rt, rt.alloc(), "one m.map 0 0 0 0", map, NOTHING_FAILS)?;
         assert_eq!(rt; ended.outcome as u32, 3, "at {wanted}");
         assert_eq!(rt; ended.err.bytes(), wanted.as_bytes());
     }
@@ -115,10 +121,10 @@ fn bytes_that_are_no_map(rt: HostRuntime) -> Result<(), Fail> {
 fn a_map_file_that_is_too_long(rt: HostRuntime) -> Result<(), Fail> {
     let mut map = Vec::from_slice(rt.alloc(), CORRIDOR.as_bytes())?;
     map.resize(2_097_152, b'\n')?;
-    let ended = call(rt.alloc(), "one m.map 0 0 2 0", &map, NOTHING_FAILS)?;
+    let ended = call(&rt, rt.alloc(), "one m.map 0 0 2 0", &map, NOTHING_FAILS)?;
     assert_eq!(rt; ended.out.bytes(), "route 2 RR\n".as_bytes());
     map.push(b'\n')?;
-    let ended = call(rt.alloc(), "one m.map 0 0 2 0", &map, NOTHING_FAILS)?;
+    let ended = call(&rt, rt.alloc(), "one m.map 0 0 2 0", &map, NOTHING_FAILS)?;
     assert_eq!(rt; ended.outcome as u32, 3);
     assert_eq!(rt;
         ended.err.bytes(),
@@ -193,7 +199,7 @@ fn a_second_file_is_refused(rt: HostRuntime) -> Result<(), Fail> {
             second_name: "o.txt",
             second: second.as_bytes(),
         };
-        let ended = call_on(rt.alloc(), line, files, NOTHING_FAILS)?;
+        let ended = call_on(&rt, rt.alloc(), line, files, NOTHING_FAILS)?;
         assert_eq!(rt; ended.outcome as u32, status, "at {line}");
         assert!(rt; ended.out.bytes().is_empty(), "at {line}");
         assert_eq!(rt; ended.err.bytes(), wanted.as_bytes(), "at {line}");
@@ -219,7 +225,13 @@ fn a_write_that_fails_ends_the_journal(rt: HostRuntime) -> Result<(), Fail> {
             second_name: "o.txt",
             second: PLAN_CANCEL_PLAN.as_bytes(),
         };
-        let ended = call_on(rt.alloc(), "orders m.map o.txt", files, failing)?;
+        let ended = call_on(
+            &rt,
+            rt.alloc(),
+            "orders m.map o.txt --workers 1",
+            files,
+            failing,
+        )?;
         assert_eq!(rt; ended.outcome as u32, 6, "at {wanted}");
         assert_eq!(rt; ended.out.bytes(), wanted.as_bytes());
         assert_eq!(rt; ended.err.bytes(), "fleet: cannot write\n".as_bytes());
@@ -242,7 +254,7 @@ fn a_fetch_that_fails_names_its_file(rt: HostRuntime) -> Result<(), Fail> {
             second_name: "o.txt",
             second: PLAN_CANCEL_PLAN.as_bytes(),
         };
-        let ended = call_on(rt.alloc(), "orders m.map o.txt", files, failing)?;
+        let ended = call_on(&rt, rt.alloc(), "orders m.map o.txt", files, failing)?;
         assert_eq!(rt; ended.outcome as u32, 5, "at {wanted}");
         assert!(rt; ended.out.bytes().is_empty(), "at {wanted}");
         assert_eq!(rt; ended.err.bytes(), wanted.as_bytes());
@@ -259,7 +271,7 @@ fn a_second_file_that_is_too_long(rt: HostRuntime) -> Result<(), Fail> {
         second_name: "o.txt",
         second: &second,
     };
-    let ended = call_on(rt.alloc(), "orders m.map o.txt", files, NOTHING_FAILS)?;
+    let ended = call_on(&rt, rt.alloc(), "orders m.map o.txt", files, NOTHING_FAILS)?;
     assert_eq!(rt; ended.outcome as u32, 4);
     assert_eq!(rt;
         ended.err.bytes(),

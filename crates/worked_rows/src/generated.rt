@@ -19,7 +19,7 @@ fn a_scenario_prints_its_journal(rt: HostRuntime) -> Result<(), Fail> {
         second: SCENARIO.as_bytes(),
     };
     for line in ["run m.map s.scen --workers 1", "run --take=1 m.map s.scen"] {
-        let ended = call_on(rt.alloc(), line, files, NOTHING_FAILS)?;
+        let ended = call_on(&rt, rt.alloc(), line, files, NOTHING_FAILS)?;
         assert_eq!(rt;
             ended.out.bytes(),
             "0 1 0 route 6 LLLLLD\nroutes 1 none 0 cancelled 0 sum 6 last 6\n".as_bytes()
@@ -44,7 +44,7 @@ fn gen_prints_the_last_line(rt: HostRuntime) -> Result<(), Fail> {
             "routes 599 none 401 cancelled 0 sum 27070 last 332\n",
         ),
     ] {
-        let ended = call(rt.alloc(), line, CORRIDOR.as_bytes(), NOTHING_FAILS)?;
+        let ended = call(&rt, rt.alloc(), line, CORRIDOR.as_bytes(), NOTHING_FAILS)?;
         assert_eq!(rt; ended.outcome as u32, 0, "at {line}");
         assert_eq!(rt; ended.out.bytes(), wanted.as_bytes(), "at {line}");
     }
@@ -79,7 +79,7 @@ fn orders_text(alloc: Global, grid: &Grid, requests: &[Request]) -> Result<Vec<u
     Ok(text)
 }
 
-// What `gen` prints is the last line of its map and orders, written as files.
+// What `gen` prints is the last line of its map and orders, written as files, with one worker.
 #[test]
 fn gen_is_a_run_over_its_files(rt: HostRuntime) -> Result<(), Fail> {
     let (grid, requests) = generate(rt.alloc(), 64, 64, 20, 1000, 7)?;
@@ -90,7 +90,13 @@ fn gen_is_a_run_over_its_files(rt: HostRuntime) -> Result<(), Fail> {
         second_name: "o.txt",
         second: &orders,
     };
-    let ended = call_on(rt.alloc(), "orders m.map o.txt", files, NOTHING_FAILS)?;
+    let ended = call_on(
+        &rt,
+        rt.alloc(),
+        "orders m.map o.txt --workers 1",
+        files,
+        NOTHING_FAILS,
+    )?;
     assert_eq!(rt; ended.outcome as u32, 0);
     assert!(rt;
         ended

@@ -27,43 +27,43 @@ fn orders_print_their_journal(rt: HostRuntime) -> Result<(), Fail> {
         (
             BAY,
             "plan 0 0 4 0 0\nplan 4 0 0 0 0\n",
-            "orders m.map o.txt",
+            "orders m.map o.txt --workers 1",
             "0 1 0 route 4 RRRR\n0 2 1 route 7 LDWULLL\nroutes 2 none 0 cancelled 0 sum 11 last 7\n",
         ),
         (
             PAIR,
             "plan 0 0 1 0 0\ncancel 0\nplan 1 0 0 0 0\n",
-            "orders m.map o.txt",
+            "orders m.map o.txt --workers 1",
             "0 1 0 route 1 R\n0 - 1 cancel 0\n1 2 2 route 1 L\nroutes 2 none 0 cancelled 1 sum 2 last 1\n",
         ),
         (
             FIVE,
             "plan 0 0 4 0 0\n",
-            "orders m.map o.txt --horizon 3",
+            "orders m.map o.txt --workers 1 --horizon 3",
             "0 1 0 none\nroutes 0 none 1 cancelled 0 sum 0 last 0\n",
         ),
         (
             FIVE,
             "plan 0 0 4 0 0\n",
-            "orders m.map o.txt --horizon 4",
+            "orders m.map o.txt --horizon 4 --workers 1",
             "0 1 0 route 4 RRRR\nroutes 1 none 0 cancelled 0 sum 4 last 4\n",
         ),
         (
             CORRIDOR,
             "plan 0 0 2 0 5\n",
-            "orders m.map o.txt",
+            "orders m.map o.txt --workers 1",
             "0 1 0 route 7 RR\nroutes 1 none 0 cancelled 0 sum 2 last 7\n",
         ),
         (
             CLOSED_SECOND,
             "plan 0 0 1 0 0\ncancel 0\n",
-            "orders m.map o.txt",
+            "orders m.map o.txt --workers 1",
             "0 1 0 none\n0 - 1 cancel 0 gone\nroutes 0 none 1 cancelled 0 sum 0 last 0\n",
         ),
         (
             PAIR,
             "",
-            "orders m.map o.txt",
+            "orders m.map o.txt --workers 1",
             "routes 0 none 0 cancelled 0 sum 0 last 0\n",
         ),
     ] {
@@ -72,7 +72,7 @@ fn orders_print_their_journal(rt: HostRuntime) -> Result<(), Fail> {
             second_name: "o.txt",
             second: orders.as_bytes(),
         };
-        let ended = call_on(rt.alloc(), line, files, NOTHING_FAILS)?;
+        let ended = call_on(&rt, rt.alloc(), line, files, NOTHING_FAILS)?;
         assert_eq!(rt; ended.outcome as u32, 0, "at {orders}");
         assert_eq!(rt; ended.out.bytes(), wanted.as_bytes(), "at {orders}");
         assert!(rt; ended.err.bytes().is_empty(), "at {orders}");
@@ -114,7 +114,7 @@ fn parks_stay(rt: HostRuntime) -> Result<(), Fail> {
             second_name: "o.txt",
             second: orders.as_bytes(),
         };
-        let ended = call_on(rt.alloc(), line, files, NOTHING_FAILS)?;
+        let ended = call_on(&rt, rt.alloc(), line, files, NOTHING_FAILS)?;
         assert_eq!(rt; ended.outcome as u32, 0, "at {orders}");
         assert_eq!(rt; ended.out.bytes(), wanted.as_bytes(), "at {orders}");
     }
@@ -132,7 +132,7 @@ fn one_cell_serves_many(rt: HostRuntime) -> Result<(), Fail> {
         second_name: "o.txt",
         second: orders.as_bytes(),
     };
-    let ended = call_on(rt.alloc(), "orders m.map o.txt", files, NOTHING_FAILS)?;
+    let ended = call_on(&rt, rt.alloc(), "orders m.map o.txt", files, NOTHING_FAILS)?;
     assert_eq!(rt; ended.out.bytes(), wanted.as_bytes());
     Ok(())
 }

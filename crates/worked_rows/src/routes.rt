@@ -25,7 +25,7 @@ fn one_prints_a_route_or_none(rt: HostRuntime) -> Result<(), Fail> {
         ("one m.map 2 0 0 0", CORRIDOR, "route 2 LL\n"),
         ("one m.map 0 0 4 0", WALL, "route 8 RDDRRUUR\n"),
     ] {
-        let ended = call(rt.alloc(), line, map.as_bytes(), NOTHING_FAILS)?;
+        let ended = call(&rt, rt.alloc(), line, map.as_bytes(), NOTHING_FAILS)?;
         assert_eq!(rt; ended.outcome as u32, 0, "at {line}");
         assert_eq!(rt; ended.out.bytes(), wanted.as_bytes(), "at {line}");
         assert!(rt; ended.err.bytes().is_empty(), "at {line}");
@@ -46,7 +46,7 @@ fn one_prints_the_canonical_route(rt: HostRuntime) -> Result<(), Fail> {
         ("one m.map 0 2 2 0", OPEN_3_BY_3, "route 4 UURR\n"),
         ("one m.map 2 2 0 0", OPEN_3_BY_3, "route 4 UULL\n"),
     ] {
-        let ended = call(rt.alloc(), line, map.as_bytes(), NOTHING_FAILS)?;
+        let ended = call(&rt, rt.alloc(), line, map.as_bytes(), NOTHING_FAILS)?;
         assert_eq!(rt; ended.outcome as u32, 0, "at {line}");
         assert_eq!(rt; ended.out.bytes(), wanted.as_bytes(), "at {line}");
     }
