@@ -1,3 +1,4 @@
+pub mod Counting
 pub mod GapLemmas
 pub mod ListLemmas
 pub mod SafeLemmas

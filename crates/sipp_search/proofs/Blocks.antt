@@ -46,6 +46,19 @@ safe_place_once records horizon list j k i are at at' = elim (cases_order j k) [
         let e' : (get_or list n i).from ≡ i.from = ap (λ (z : Interval). z.from) (get_or_from_slice_get list n i i two) in
         omega (arith, (safe_at records horizon list m i are one).some)
 
+-- of two of them the one that stands later begins later
+pub rising_from : (records : List Record) (horizon : ℕ) (list : List Interval) (m n : ℕ) (i j : Interval) → AreSafeIntervals records horizon list
+    → slice_get list m ≡ Some i → slice_get list n ≡ Some j → m ≤ n → i.from ≤ j.from
+rising_from records horizon list m n i j are at at' less = elim (cases_order m n) [
+  | inl same ↦ let one : i ≡ j = same_Some i j (sym at ∙ (rw same at')) in omega (arith, ap (λ (z : Interval). z.from) one)
+  | inr other ↦ elim other [
+    | inl below ↦
+        let before : (get_or list m i).to < (get_or list n i).from = are.rising m n i below (slice_get_within list n j at') in
+        omega (arith, ap (λ (z : Interval). z.to) (get_or_from_slice_get list m i i at), ap (λ (z : Interval). z.from) (get_or_from_slice_get list n j i at'), (safe_at records horizon list m i are at).some)
+    | inr above ↦ absurd (omega arith)
+  ]
+]
+
 module _ (g : Terrain) (goal : Cell) (horizon : ℕ) (known : ℕ → Option (List Record)) (spots : List Spot) where
   -- a free time of the cell has its spot in the block
   pub block_holds : (c : Cell) (first t : ℕ) (block : IsBlock g goal horizon known spots c first) → t ≤ horizon → covers block.records t ≡ false

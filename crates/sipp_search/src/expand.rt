@@ -171,7 +171,12 @@ fn reach_into<V: CalendarView>(
     let here = view.calendar(from.cell);
     let there = view.calendar(to);
     for j in first..states.len() {
-        if states[j].spot.cell.0 != to.0 {
+        let spot = states[j].spot;
+        if spot.cell.0 != to.0 {
+            return Ok(());
+        }
+        // Into this interval and all later ones no move leads in time.
+        if spot.interval.from > from.interval.to + 1 {
             return Ok(());
         }
         visit(here, there, states, queue, from, arrival, j, horizon)?;

@@ -13,7 +13,7 @@ use crate::task::Task;
 use bucket_queue::BucketQueue;
 use calendars::{Calendar, CalendarView};
 use fleet_base::{Cell, Memory};
-use safe_intervals::next_gap;
+use safe_intervals::{begun_by, gap_after};
 
 fn add_state(states: &mut Vec<State>, queue: &mut BucketQueue, spot: Spot) -> Result<(), Memory>
     requires { queue.old.keys ≡ keys_of states.old.items }
@@ -45,7 +45,8 @@ fn add_states(
     ensures bound { queue.new.bound ≡ queue.old.bound }
 {
     let mut from = 0;
-    while let Some(interval) = next_gap(calendar, from, horizon) {
+    let mut begun = begun_by(calendar, 0, from);
+    while let Some(interval) = gap_after(calendar, begun, from, horizon) {
         let spot = Spot {
             cell,
             interval,
@@ -53,6 +54,7 @@ fn add_states(
         };
         add_state(states, queue, spot)?;
         from = interval.to + 1;
+        begun = begun_by(calendar, begun, from);
     }
     Ok(())
 }
