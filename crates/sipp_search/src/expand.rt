@@ -17,6 +17,7 @@ ghost use Rattle.sipp_search.specs.Arena.{IsBlock};
 ghost use Rattle.fleet_base.specs.declared.request.Record.{Record};
 ghost use Rattle.sipp_search.specs.Progress.{IsBound, IsArrived, AreSpots, IsUnderWay, Improves};
 ghost use Rattle.sipp_search.specs.Visiting.{IsSource, HasEntered, HasLed};
+ghost use Rattle.static_distance.specs.Levels.{IsPlaceOf};
 
 use crate::states::{Arena, Mark, Spot, State, Taken};
 use crate::task::Task;
@@ -25,6 +26,7 @@ use bucket_queue::BucketQueue;
 use calendars::{Calendar, CalendarView, crossing};
 use fleet_base::{Cell, Memory, Side};
 use safe_intervals::Interval;
+use static_distance::{Place, neighbour_at, place_of};
 
 // The least time at which an agent that is in the first interval since that time can move into the second.
 fn entry_time(
@@ -185,18 +187,21 @@ fn reach_into<V: CalendarView>(
 }
 
 // Makes the moves out of the spot, where the agent is since `arrival`, into the cell on that side.
+#[inline(always)]
 fn move_to<V: CalendarView>(
     task: &Task,
     view: &mut V,
     arena: &mut Arena,
     from: Spot,
     arrival: u32,
+    place: Place,
     side: Side,
 ) -> Result<(), Memory>
     requires ready { IsReady task.now.grid.now task.now.request task.now.horizon (V.size view.old) }
     requires sound { IsSound task.now.grid.now task.now.request task.now.horizon (V.known view.old) (V.size view.old) arena.old }
     requires placed { (i : ℕ) × (slice_get (spots_of arena.old.states.items) i ≡ Some from) }
     requires arrived { IsIn arrival from.interval }
+    requires place { IsPlaceOf task.now.grid.now from.cell place }
     requires taken { arena.old.queue.floor ≡ arrival + from.left }
     ensures cells { V.size view.new ≡ V.size view.old }
     ensures went { V.went view.old view.new }
@@ -212,7 +217,7 @@ fn move_to<V: CalendarView>(
         → IsUnderWay task.now.grid.now task.now.request task.now.horizon a arena.new.states.items arena.old.queue.floor x
         × ((c : ACell) → IsBeside task.now.grid.now side from.cell c → HasLed task.now.grid.now task.now.request task.now.horizon a arena.new.states.items from arrival c)) }
 {
-    let Some(to) = task.grid.neighbour(from.cell, side) else {
+    let Some(to) = neighbour_at(task.grid, from.cell, place, side) else {
         return Ok(());
     };
     let Some(first) = block_of(task, view, arena, to)? else {
@@ -266,8 +271,10 @@ pub fn expand<V: CalendarView>(
         → IsUnderWay task.now.grid.now task.now.request task.now.horizon a arena.old.states.items arena.old.queue.floor taken.id
         → IsUnderWay task.now.grid.now task.now.request task.now.horizon a arena.new.states.items arena.old.queue.floor x) }
 {
+    let place = place_of(task.grid, taken.spot.cell);
     for rank in 0..4 {
-        move_to(task, view, arena, taken.spot, taken.arrival, side_at(rank))?;
+        let side = side_at(rank);
+        move_to(task, view, arena, taken.spot, taken.arrival, place, side)?;
     }
     Ok(())
 }
