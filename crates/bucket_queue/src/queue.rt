@@ -72,6 +72,14 @@ impl BucketQueue {
         self.buckets.keys[id]
     }
 
+    /// The least key that an id may have: the one taken last.
+    pub fn floor(&self) -> usize
+        ensures value { result ≡ self.now.floor }
+        ensures within { result ≤ self.now.bound }
+    {
+        self.floor
+    }
+
     /// Queues an id with that key, or moves it there from the key that it has.
     #[inline(always)]
     pub fn put(&mut self, id: usize, key: u32) -> Result<(), AllocError>

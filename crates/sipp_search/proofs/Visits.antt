@@ -19,7 +19,8 @@ use Rattle.sipp_search.specs.declared.states.Mark.{Mark}
 use Rattle.sipp_search.specs.declared.states.Mark.TheVariants.{Final}
 use Rattle.sipp_search.specs.Marks.{spots_of, final, offered}
 use Rattle.sipp_search.specs.Entry.{CanEnter, IsEntry}
-use Rattle.sipp_search.specs.Arena.{IsBlock}
+use Rattle.static_distance.specs.Distance.{IsDistance}
+use Rattle.sipp_search.specs.Arena.{IsBlock, HasTimes}
 use Rattle.sipp_search.specs.Progress.{IsBound, MayMove, AreSpots, IsArrived, IsQueuedWell, AreQueuedWell, IsUnderWay, Improves}
 use Rattle.sipp_search.specs.Visiting.{IsSource, HasEntered, HasLed}
 use Rattle.sipp_search.proofs.Lists.{stands_map}
@@ -107,13 +108,15 @@ module _ (g : Terrain) (q : Request) (horizon : ℕ) (a : Assignment) (old now :
   IsOutOf p = (p.cell ≢ to) ⊎ (from.interval.to + 1 < p.interval.from)
 
   -- where the spots until j were entered and no later one can be, each move was made
-  pub has_led : (known : ℕ → Option (List Record)) (j : ℕ) → IsBound g q.goal → Agrees a known → AreSpots g q horizon a (spots_of old)
-      → IsBlock g q.goal horizon known (spots_of old) to first → first ≤ j
+  pub has_led : (known : ℕ → Option (List Record)) (floor j : ℕ) → IsBound g q.goal → Agrees a known → AreSpots g q horizon a (spots_of old)
+      → IsBlock g q.goal horizon known (spots_of old) to first → HasTimes g q.goal horizon known floor (spots_of old) to first
+      → ((left : ℕ) → IsDistance g q.goal to left → floor ≤ r + 1 + left) → first ≤ j
       → ((p : Spot) → slice_get (spots_of old) j ≡ Some p → IsOutOf p) → HasEnteredUntil j → HasLed g q horizon a now from r to
-  has_led known j bound agrees spots block run no_more entered t k since until move near in_time =
+  has_led known floor j bound agrees spots block times late run no_more entered t k since until move near in_time =
       let records : a to.0 ≡ block.records = agrees to.0 block.records block.known_is in
       let free : covers block.records (t + 1) ≡ false = rw records at move.untaken in
-      let holds = block_holds g q.goal horizon known (spots_of old) to first (t + 1) block (omega arith) free in
+      let low : floor ≤ r + 1 + block.left = late block.left block.distance in
+      let holds = block_holds g q.goal horizon known (spots_of old) floor to first (t + 1) block times (omega arith) (omega arith) free in
       let spot : Spot = record { cell = to; interval = holds.1; left = block.left } in
       let at : slice_get (spots_of old) (first + holds.0) ≡ Some spot = block.each holds.0 holds.1 holds.2 in
       let left : block.left ≤ near.left = block.distance.least near.left near.way in

@@ -13,7 +13,8 @@ ghost use Rattle.sipp_search.specs.Marks.{spots_of, keys_of, offered, offered_ma
 ghost use Rattle.std.specs.Bool.{OnTrue, OnFalse};
 ghost use Rattle.sipp_search.specs.declared.states.Mark.TheVariants.{Queued};
 ghost use Rattle.sipp_search.specs.Entry.{AnswersEntry};
-ghost use Rattle.sipp_search.specs.Arena.{IsBlock};
+ghost use Rattle.sipp_search.specs.Arena.{IsBlock, HasTimes};
+ghost use Rattle.static_distance.specs.Distance.{IsDistance};
 ghost use Rattle.fleet_base.specs.declared.request.Record.{Record};
 ghost use Rattle.sipp_search.specs.Progress.{IsBound, IsArrived, AreSpots, IsUnderWay, Improves};
 ghost use Rattle.sipp_search.specs.Visiting.{IsSource, HasEntered, HasLed};
@@ -167,6 +168,8 @@ fn reach_into<V: CalendarView>(
     ensures improves { OnOk result (Improves states.old.items states.new.items) }
     ensures led { OnOk result ((g : Terrain) (q : Request) (a : Assignment) (x : ℕ) → Agrees a (V.known view.now) → IsSource g q horizon a from arrival to
         → AreSpots g q horizon a (spots_of states.old.items) → IsBlock g q.goal horizon (V.known view.now) (spots_of states.old.items) to first
+        → HasTimes g q.goal horizon (V.known view.now) queue.old.floor (spots_of states.old.items) to first
+        → ((left : ℕ) → IsDistance g q.goal to left → queue.old.floor ≤ arrival + 1 + left)
         → IsBound g q.goal → IsUnderWay g q horizon a states.old.items queue.old.floor x
         → IsUnderWay g q horizon a states.new.items queue.old.floor x × HasLed g q horizon a states.new.items from arrival to) }
 {

@@ -15,14 +15,14 @@ use Rattle.sipp_search.proofs.Visits.{has_led, entered_more, spot_there, same_le
 use Rattle.sipp_search.proofs.expand.reach_into.Goals as goal
 
 pub returns-then-spot-to-clause-led : goal.returns-then-spot-to-clause-led
-returns-then-spot-to-clause-led g c = λ t q a x agrees source spots block bound way.
+returns-then-spot-to-clause-led g c = λ t q a x agrees source spots block times late bound way.
     (let both = c.loop-j.invariant.entered t q a x agrees source spots way in
     let len : vec_len c.args.states.now ≡ length c.args.states.now.items = search rules in
     let within : c.loop-j.j < length c.loop-j.states.items = omega (arith, same_length c.args.states.now.items c.loop-j.states.items c.loop-j.invariant.spots, c.loop-j-test.true, c.len-j-end.ensures) in
     let at : slice_get c.loop-j.states.items c.loop-j.j ≡ Some c.index.result.now = slice_get_read c.loop-j.states.items _ _ _ refl within c.index.ensures in (
       both.0,
       has_led t q c.args.horizon a c.args.states.now.items c.loop-j.states.items c.args.from c.args.arrival c.args.to c.args.first
-          (g.V.CalendarView.known c.args.view.now) c.loop-j.j bound agrees spots block c.loop-j.auto.j
+          (g.V.CalendarView.known c.args.view.now) c.args.queue.now.floor c.loop-j.j bound agrees spots block times late c.loop-j.auto.j
           (λ p at'.
           let here = spot_there c.args.states.now.items c.loop-j.states.items c.loop-j.j c.index.result.now c.loop-j.invariant.spots at in
           let same : c.index.result.now.spot ≡ p = same_Some c.index.result.now.spot p (sym here ∙ at') in
@@ -30,14 +30,14 @@ returns-then-spot-to-clause-led g c = λ t q a x agrees source spots block bound
     ))
 
 pub returns-then-spot-from-clause-led : goal.returns-then-spot-from-clause-led
-returns-then-spot-from-clause-led g c = λ t q a x agrees source spots block bound way.
+returns-then-spot-from-clause-led g c = λ t q a x agrees source spots block times late bound way.
     (let both = c.loop-j.invariant.entered t q a x agrees source spots way in
     let len : vec_len c.args.states.now ≡ length c.args.states.now.items = search rules in
     let within : c.loop-j.j < length c.loop-j.states.items = omega (arith, same_length c.args.states.now.items c.loop-j.states.items c.loop-j.invariant.spots, c.loop-j-test.true, c.len-j-end.ensures) in
     let at : slice_get c.loop-j.states.items c.loop-j.j ≡ Some c.index.result.now = slice_get_read c.loop-j.states.items _ _ _ refl within c.index.ensures in (
       both.0,
       has_led t q c.args.horizon a c.args.states.now.items c.loop-j.states.items c.args.from c.args.arrival c.args.to c.args.first
-          (g.V.CalendarView.known c.args.view.now) c.loop-j.j bound agrees spots block c.loop-j.auto.j
+          (g.V.CalendarView.known c.args.view.now) c.args.queue.now.floor c.loop-j.j bound agrees spots block times late c.loop-j.auto.j
           (λ p at'.
           let here = spot_there c.args.states.now.items c.loop-j.states.items c.loop-j.j c.index.result.now c.loop-j.invariant.spots at in
           let same : c.index.result.now.spot ≡ p = same_Some c.index.result.now.spot p (sym here ∙ at') in
@@ -79,12 +79,12 @@ loop-j-preserved g c = record {
 }
 
 pub returns-clause-led : goal.returns-clause-led
-returns-clause-led g c = λ t q a x agrees source spots block bound way.
+returns-clause-led g c = λ t q a x agrees source spots block times late bound way.
     (let both = c.loop-j.invariant.entered t q a x agrees source spots way in
     let len : vec_len c.args.states.now ≡ length c.args.states.now.items = search rules in (
       both.0,
       has_led t q c.args.horizon a c.args.states.now.items c.loop-j.states.items c.args.from c.args.arrival c.args.to c.args.first
-          (g.V.CalendarView.known c.args.view.now) c.loop-j.j bound agrees spots block c.loop-j.auto.j
+          (g.V.CalendarView.known c.args.view.now) c.args.queue.now.floor c.loop-j.j bound agrees spots block times late c.loop-j.auto.j
           (λ p at.
           let within : c.loop-j.j < length (spots_of c.args.states.now.items) = slice_get_within (spots_of c.args.states.now.items) c.loop-j.j p at in
           absurd (omega (arith, length-map c.args.states.now.items (λ (z : State). z.spot), c.loop-j-test.false, c.len-j-end.ensures))) both.1,

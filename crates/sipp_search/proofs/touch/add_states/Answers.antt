@@ -1,7 +1,7 @@
 use Rattle.std.proofs.Common.{arith, ◌+◌, sym, ap, ◌∙◌, ◌++◌, ◌∷◌, [], List, append_assoc}
 use Rattle.bucket_queue.specs.Queue.{Queue}
 use Rattle.safe_intervals.proofs.Counting.{more_begun}
-use Rattle.safe_intervals.proofs.ListLemmas.{one_more}
+use Rattle.safe_intervals.proofs.FromLemmas.{one_more}
 use Rattle.sipp_search.specs.declared.states.State.{State}
 use Rattle.sipp_search.specs.Marks.{keys_of, unseen}
 use Rattle.sipp_search.specs.Arena.{spot_of, states_for}
@@ -21,7 +21,7 @@ loop-interval-preserved c =
       within = c.begun_by-begun-in-Some.ensures.within;
       found = (
         found.0 ++ c.in-Some.interval ∷ [],
-        one_more _ _ _ _ found.1 c.in-Some.interval c.in-Some.ensures,
+        one_more _ _ _ _ _ found.1 c.in-Some.interval c.in-Some.ensures,
         c.in_ok-add_state.ensures.states
             ∙ (ap (λ (xs : List State). xs ++ unseen (spot_of c.args.cell c.args.left c.in-Some.interval) ∷ []) found.2
             ∙ (append_assoc c.args.states.now.items (states_for c.args.cell c.args.left found.0) (unseen (spot_of c.args.cell c.args.left c.in-Some.interval) ∷ [])
