@@ -3,6 +3,9 @@ ghost use Rattle.std.specs.Bool.{OnTrue, OnFalse};
 
 use std::alloc::AllocError;
 
+// For how many ids a bucket keeps room once it is cleared: else each one would keep that of its fullest time.
+const KEPT: usize = 1024;
+
 // The place of an id in the bucket of that number.
 #[derive(Clone, Copy)]
 pub(crate) struct Spot {
@@ -113,6 +116,7 @@ impl Buckets {
     {
         for key in 0..end {
             self.by_key[key].clear();
+            self.by_key[key].shrink_to(KEPT);
         }
         self.keys.clear();
     }
