@@ -106,8 +106,8 @@ impl BucketQueue {
         self.floor = spot.key;
         Some(id)
     }
-    /// No ids any more, and the floor is 0 again. It passes the buckets from the floor to the greatest key that was used
-    /// since the last clearing, keeps their room, and allocates nothing.
+    /// No ids any more, and the floor is 0 again. It passes the buckets up to the greatest key that was used since the last
+    /// clearing, and keeps a little of their room.
     pub fn clear(&mut self)
         ensures { self.new ≡ record self.old { keys = []; floor = 0 } }
     {
