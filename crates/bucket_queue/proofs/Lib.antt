@@ -1,3 +1,3 @@
 pub mod Lists
-pub mod PairingLemmas
+pub mod HeldLemmas
 pub mod QueueLemmas

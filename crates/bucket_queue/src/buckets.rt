@@ -1,131 +1,123 @@
-ghost use Rattle.std.specs.Prelude.{◌≡◌, ◌≢◌, ℕ, ◌<◌, ◌≤◌, Some, None, [], IfSome, IfNone, OnOk, OnErr, length, slice_get, slice_set};
+ghost use Rattle.std.specs.Prelude.{◌≡◌, ℕ, ◌<◌, ◌≤◌, Some, None, [], IfSome, IfNone, OnOk, OnErr, length, slice_get, slice_set};
+ghost use Rattle.std.specs.Bool.{OnTrue, OnFalse};
 
 use std::alloc::AllocError;
 
-// Where a queued id stands: its key, which is the number of its bucket, and its place in that bucket.
+// For how many ids a bucket keeps room once it is cleared: else each one would keep that of its fullest time.
+const KEPT: usize = 1024;
+
+// The place of an id in the bucket of that number.
 #[derive(Clone, Copy)]
 pub(crate) struct Spot {
-    pub(crate) key: u32,
+    pub(crate) key: usize,
     pub(crate) place: usize,
 }
 
-// The ids of each key, in no order, and the spot of each id that is queued.
+// The key of each id that is queued, and ids by their keys, in no order. An id whose key has changed stays in its old
+// bucket until it comes up there, and is passed then.
 #[derive(Drop)]
 pub(crate) struct Buckets {
-    pub(crate) by_key: Vec<Vec<usize>>,
-    pub(crate) spots: Vec<Option<Spot>>,
+    pub(crate) by_key: Vec<Vec<u32>>,
+    pub(crate) keys: Vec<Option<u32>>,
 }
 
 impl Buckets {
-    ghost use Rattle.bucket_queue.specs.Pairing.{IsPaired, IsFull, IsFilledAt, IsFirstFilled, IsEmptyAt, keys_of};
+    ghost use Rattle.bucket_queue.specs.Held.{IsHeld, IsLast, IsFirst, HasNone};
     ghost use Rattle.bucket_queue.specs.Queue.{HasKey};
-
-    pub(crate) fn key_of(&self, id: usize) -> Option<u32>
-        requires { id < length self.now.spots.items }
-        ensures { slice_get (keys_of self.now) id ≡ Some result }
-    {
-        self.spots[id].map(|spot| spot.key)
-    }
 
     // Gives an id that key, whether it has one or not.
     #[inline(always)]
     pub(crate) fn put(&mut self, id: usize, key: u32) -> Result<(), AllocError>
-        requires paired { IsPaired self.old }
-        requires known { id < length self.old.spots.items }
+        requires held { IsHeld self.old }
+        requires known { id < length self.old.keys.items }
         requires bound { key < length self.old.by_key.items }
-        ensures paired { IsPaired self.new }
+        ensures held { IsHeld self.new }
         ensures count { length self.new.by_key.items ≡ length self.old.by_key.items }
-        ensures ok { OnOk result (keys_of self.new ≡ slice_set (keys_of self.old) id (Some key)) }
-        ensures err { OnErr result (keys_of self.new ≡ keys_of self.old) }
+        ensures ok { OnOk result (self.new.keys.items ≡ slice_set self.old.keys.items id (Some key)) }
+        ensures err { OnErr result (self.new.keys.items ≡ self.old.keys.items) }
     {
-        let Some(spot) = self.spots[id] else {
-            return self.put_in(id, key);
-        };
-        if spot.key == key {
-            return Ok(());
-        }
-        // With this room the id can't be lost on the way.
-        self.by_key[key as usize].reserve(1)?;
-        self.take_out(id, spot);
-        self.put_in(id, key)
-    }
-
-    // Puts an id at the end of the bucket of its key.
-    fn put_in(&mut self, id: usize, key: u32) -> Result<(), AllocError>
-        requires paired { IsPaired self.old }
-        requires absent { slice_get self.old.spots.items id ≡ Some None }
-        requires bound { key < length self.old.by_key.items }
-        ensures paired { IsPaired self.new }
-        ensures count { length self.new.by_key.items ≡ length self.old.by_key.items }
-        ensures ok { OnOk result (keys_of self.new ≡ slice_set (keys_of self.old) id (Some key)) }
-        ensures err { OnErr result (keys_of self.new ≡ keys_of self.old) }
-        ensures full { OnErr result (IsFull self.old.by_key.items key) }
-    {
-        let place = self.by_key[key as usize].len();
-        self.by_key[key as usize].push(id)?;
-        self.spots[id] = Some(Spot { key, place });
+        self.by_key[key as usize].push(id as u32)?;
+        self.keys[id] = Some(key);
         Ok(())
     }
 
-    // Takes an id out of its bucket, whose last id takes its place.
-    fn take_out(&mut self, id: usize, spot: Spot)
-        requires paired { IsPaired self.old }
-        requires present { slice_get self.old.spots.items id ≡ Some (Some spot) }
-        ensures paired { IsPaired self.new }
-        ensures count { length self.new.by_key.items ≡ length self.old.by_key.items }
-        ensures keys { keys_of self.new ≡ slice_set (keys_of self.old) id None }
-        ensures absent { slice_get self.new.spots.items id ≡ Some None }
-        ensures others { (k : ℕ) → k ≢ spot.key → slice_get self.new.by_key.items k ≡ slice_get self.old.by_key.items k }
+    // Whether the id has that key.
+    #[inline(always)]
+    fn has_key(&self, id: u32, key: usize) -> bool
+        ensures yes { OnTrue result (HasKey self.now.keys.items id key) }
+        ensures no { OnFalse result (HasKey self.now.keys.items id key → ⊥) }
     {
-        self.by_key[spot.key as usize].swap_remove(spot.place);
-        self.spots[id] = None;
-        let bucket = &self.by_key[spot.key as usize];
-        if spot.place == bucket.len() {
-            return;
+        let id = id as usize;
+        if id >= self.keys.len() {
+            return false;
         }
-        let moved = bucket[spot.place];
-        self.spots[moved] = Some(spot);
+        match self.keys[id] {
+            Some(known) => known as usize == key,
+            None => false,
+        }
     }
 
-    // Takes the last id of a bucket that isn't empty.
-    pub(crate) fn pop(&mut self, key: usize) -> usize
-        requires paired { IsPaired self.old }
-        requires filled { IsFilledAt self.old.by_key.items key }
-        ensures paired { IsPaired self.new }
-        ensures count { length self.new.by_key.items ≡ length self.old.by_key.items }
-        ensures queued { HasKey (keys_of self.old) result key }
-        ensures keys { keys_of self.new ≡ slice_set (keys_of self.old) result None }
+    // The last place in the bucket of an id that has its key.
+    #[inline(always)]
+    fn last_place(&self, key: usize) -> Option<usize>
+        requires held { IsHeld self.now }
+        requires bound { key < length self.now.by_key.items }
+        ensures some { IfSome result (IsLast self.now key) }
+        ensures none { IfNone result (HasNone self.now.keys.items key) }
     {
-        let id = self.by_key[key].pop().unwrap();
-        self.spots[id] = None;
-        id
-    }
-
-    // The first bucket from `from` up to `end` that isn't empty.
-    pub(crate) fn first_filled(&self, from: usize, end: usize) -> Option<usize>
-        requires { end ≤ length self.now.by_key.items }
-        ensures some { IfSome result (IsFirstFilled self.now.by_key.items from end) }
-        ensures none { IfNone result ((k : ℕ) → from ≤ k → k < end → IsEmptyAt self.now.by_key.items k) }
-    {
-        for key in from..end {
-            if !self.by_key[key].is_empty() {
-                return Some(key);
+        let bucket = &self.by_key[key];
+        let count = bucket.len();
+        for back in 0..count {
+            let place = count - 1 - back;
+            if self.has_key(bucket[place], key) {
+                return Some(place);
             }
         }
         None
     }
-    // Forgets all ids, where no bucket before `from` or from `end` on is filled.
-    pub(crate) fn clear(&mut self, from: usize, end: usize)
-        requires within { end ≤ length self.old.by_key.items }
-        requires low { (k : ℕ) → k < from → IsEmptyAt self.old.by_key.items k }
-        requires high { (k : ℕ) → end ≤ k → IsEmptyAt self.old.by_key.items k }
-        ensures empty { (k : ℕ) → IsEmptyAt self.new.by_key.items k }
-        ensures count { length self.new.by_key.items ≡ length self.old.by_key.items }
-        ensures none { self.new.spots.items ≡ [] }
+
+    // The last spot of the first key from `from` up to `end` that an id has.
+    #[inline(always)]
+    pub(crate) fn first_spot(&self, from: usize, end: usize) -> Option<Spot>
+        requires held { IsHeld self.now }
+        requires within { end ≤ length self.now.by_key.items }
+        ensures some { IfSome result (IsFirst self.now from end) }
+        ensures none { IfNone result ((k : ℕ) → from ≤ k → k < end → HasNone self.now.keys.items k) }
     {
         for key in from..end {
-            self.by_key[key].clear();
+            if let Some(place) = self.last_place(key) {
+                return Some(Spot { key, place });
+            }
         }
-        self.spots.clear();
+        None
+    }
+
+    // Takes the id of a spot, where none after it in its bucket has that key.
+    #[inline(always)]
+    pub(crate) fn take_out(&mut self, spot: Spot) -> usize
+        requires held { IsHeld self.old }
+        requires last { IsLast self.old spot.key spot.place }
+        ensures held { IsHeld self.new }
+        ensures count { length self.new.by_key.items ≡ length self.old.by_key.items }
+        ensures queued { HasKey self.old.keys.items result spot.key }
+        ensures keys { self.new.keys.items ≡ slice_set self.old.keys.items result None }
+    {
+        let id = self.by_key[spot.key][spot.place] as usize;
+        self.by_key[spot.key].truncate(spot.place);
+        self.keys[id] = None;
+        id
+    }
+
+    // Forgets all ids. No bucket from `end` on was used.
+    pub(crate) fn clear(&mut self, end: usize)
+        requires { end ≤ length self.old.by_key.items }
+        ensures count { length self.new.by_key.items ≡ length self.old.by_key.items }
+        ensures none { self.new.keys.items ≡ [] }
+    {
+        for key in 0..end {
+            self.by_key[key].clear();
+            self.by_key[key].shrink_to(KEPT);
+        }
+        self.keys.clear();
     }
 }

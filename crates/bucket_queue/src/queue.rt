@@ -10,7 +10,7 @@ pub struct BucketQueue {
     buckets: Buckets,
     // The least key that an id may have.
     floor: usize,
-    // Above each key that was used since the ids were last cleared.
+    // Above each bucket that was used since the ids were last cleared.
     end: usize,
 }
 
@@ -20,11 +20,12 @@ impl Model for BucketQueue {
 
     ghost Value = { Queue };
 
-    ghost use Rattle.bucket_queue.specs.Pairing.{IsQueue, AreBelow, keys_of};
+    ghost use Rattle.std.specs.Prelude.{◌≤◌};
+    ghost use Rattle.bucket_queue.specs.Held.{IsQueue};
 
-    ghost view = { λ q. record { keys = keys_of q.buckets; floor = q.floor; bound = length q.buckets.by_key.items - 1 } };
+    ghost view = { λ q. record { keys = q.buckets.keys.items; floor = q.floor; bound = length q.buckets.by_key.items - 1 } };
 
-    ghost invariant = { λ q. IsQueue q.buckets q.floor × AreBelow q.buckets q.end };
+    ghost invariant = { λ q. IsQueue q.buckets q.floor × (q.end ≤ length q.buckets.by_key.items) };
 }
 
 impl BucketQueue {
@@ -42,7 +43,7 @@ impl BucketQueue {
         Ok(BucketQueue {
             buckets: Buckets {
                 by_key,
-                spots: Vec::new(alloc),
+                keys: Vec::new(alloc),
             },
             floor: 0,
             end: 0,
@@ -54,7 +55,11 @@ impl BucketQueue {
         ensures ok { OnOk result (self.new ≡ record self.old { keys = self.old.keys ++ None ∷ [] }) }
         ensures err { OnErr result (self.new ≡ self.old) }
     {
-        self.buckets.spots.push(None)?;
+        // The buckets have numbers of 32 bits.
+        if self.buckets.keys.len() >= u32::MAX as usize {
+            return Err(AllocError);
+        }
+        self.buckets.keys.push(None)?;
         Ok(())
     }
 
@@ -64,7 +69,15 @@ impl BucketQueue {
         ensures value { slice_get self.now.keys id ≡ Some result }
         ensures range { IfSome result (λ key. (self.now.floor ≤ key) × (key ≤ self.now.bound)) }
     {
-        self.buckets.key_of(id)
+        self.buckets.keys[id]
+    }
+
+    /// The least key that an id may have: the one taken last.
+    pub fn floor(&self) -> usize
+        ensures value { result ≡ self.now.floor }
+        ensures within { result ≤ self.now.bound }
+    {
+        self.floor
     }
 
     /// Queues an id with that key, or moves it there from the key that it has.
@@ -88,17 +101,17 @@ impl BucketQueue {
         ensures none { IfNone result (TakesNone self.old self.new limit) }
     {
         let end = self.buckets.by_key.len().min(limit as usize + 1);
-        let key = self.buckets.first_filled(self.floor, end)?;
-        let id = self.buckets.pop(key);
-        self.floor = key;
+        let spot = self.buckets.first_spot(self.floor, end)?;
+        let id = self.buckets.take_out(spot);
+        self.floor = spot.key;
         Some(id)
     }
-    /// No ids any more, and the floor is 0 again. It passes the buckets from the floor to the greatest key that was used
-    /// since the last clearing, keeps their room, and allocates nothing.
+    /// No ids any more, and the floor is 0 again. It passes the buckets up to the greatest key that was used since the last
+    /// clearing, and keeps a little of their room.
     pub fn clear(&mut self)
         ensures { self.new ≡ record self.old { keys = []; floor = 0 } }
     {
-        self.buckets.clear(self.floor, self.end);
+        self.buckets.clear(self.end);
         self.floor = 0;
         self.end = 0;
     }

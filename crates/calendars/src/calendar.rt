@@ -87,11 +87,23 @@ fn place_of(records: &[Record], time: u32) -> usize
     records.partition_point(|r| r.from <= time)
 }
 
+// Room for one record more. Each cell has a calendar, and most stay short, so they grow by little.
+fn make_room(records: &mut Vec<Record>) -> Result<(), Memory>
+    ensures { records.new.items ≡ records.old.items }
+{
+    let count = records.len();
+    if count == records.capacity() {
+        records.reserve_exact(count / 4 + 1)?;
+    }
+    Ok(())
+}
+
 fn put_in(records: &mut Vec<Record>, added: Record) -> Result<(), Memory>
     requires { InOrder records.old.items }
     ensures ok { OnOk result (records.new.items ≡ with_record added records.old.items) }
     ensures refused { OnErr result (records.new.items ≡ records.old.items) }
 {
+    make_room(records)?;
     let place = place_of(records.as_slice(), added.from);
     match records.insert(place, added) {
         Ok(()) => Ok(()),

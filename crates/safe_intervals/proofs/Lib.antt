@@ -1,3 +1,5 @@
+pub mod Counting
+pub mod FromLemmas
 pub mod GapLemmas
 pub mod ListLemmas
 pub mod SafeLemmas

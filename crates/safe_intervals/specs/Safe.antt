@@ -32,6 +32,12 @@ pub record AreSafeIntervals (records : List Record) (horizon : ℕ) (list : List
   pub each_time : (t : ℕ) → t ≤ horizon → covers records t ≡ false → Any (IsIn t) list
   pub rising : AllPairs IsBefore list
 
+-- the same for the times from `low` on: none that ends earlier has to be among them
+pub record AreSafeFrom (records : List Record) (horizon low : ℕ) (list : List Interval) : Type 0 where
+  pub safe : All (IsSafeInterval records horizon) list
+  pub each_time : (t : ℕ) → low ≤ t → t ≤ horizon → covers records t ≡ false → Any (IsIn t) list
+  pub rising : AllPairs IsBefore list
+
 -- the first safe interval that ends at the time or later
 pub record IsNextGap (records : List Record) (horizon from : ℕ) (i : Interval) : Type 0 where
   pub safe : IsSafeInterval records horizon i

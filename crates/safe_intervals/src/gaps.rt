@@ -1,4 +1,5 @@
-ghost use Rattle.std.specs.Prelude.{◌≤◌, IfOk};
+ghost use Rattle.std.specs.Prelude.{◌≡◌, ◌≤◌, length, IfOk};
+ghost use Rattle.calendars.specs.Places.{place_in};
 ghost use Rattle.calendars.specs.Records.{InOrderFrom};
 ghost use Rattle.safe_intervals.specs.Safe.{AreSafeIntervals, AnswersGap, LeavesFirst};
 
@@ -13,19 +14,43 @@ pub fn next_gap(calendar: &Calendar, from: u32, horizon: u32) -> Option<Interval
     requires { horizon ≤ 8000 }
     ensures { AnswersGap calendar.now horizon from result }
 {
+    gap_after(calendar, calendar.place_of(from), from, horizon)
+}
+
+/// The same, where `begun` records begin at `from` or before.
+pub fn gap_after(calendar: &Calendar, begun: usize, from: u32, horizon: u32) -> Option<Interval>
+    requires horizon { horizon ≤ 8000 }
+    requires begun { begun ≡ place_in from calendar.now }
+    requires within { begun ≤ length calendar.now }
+    ensures { AnswersGap calendar.now horizon from result }
+{
     if from > horizon {
         return None;
     }
     let records = calendar.records();
-    let place = calendar.place_of(from);
-    if place == 0 {
+    if begun == 0 {
         return first_gap(records, 0, horizon);
     }
-    let last = &records[place - 1];
+    let last = &records[begun - 1];
     if last.to >= horizon {
         return None;
     }
-    first_gap(&records[place..], last.to + 1, horizon)
+    first_gap(&records[begun..], last.to + 1, horizon)
+}
+
+/// How many records begin at that time or before, where so many are known to. It passes only what else has begun.
+pub fn begun_by(calendar: &Calendar, known: usize, time: u32) -> usize
+    requires { known ≤ place_in time calendar.now }
+    ensures place { result ≡ place_in time calendar.now }
+    ensures within { result ≤ length calendar.now }
+{
+    let records = calendar.records();
+    for place in known..records.len() {
+        if time < records[place].from {
+            return place;
+        }
+    }
+    records.len()
 }
 
 // The first range from `low` on that the records leave.

@@ -10,7 +10,6 @@ use Rattle.fleet_base.specs.Terrain.{Terrain}
 use Rattle.fleet_base.specs.Reach.{Reached, begin}
 use Rattle.calendars.specs.Records.{covers}
 use Rattle.calendars.specs.Assignments.{Assignment, Agrees, traffic_by}
-use Rattle.safe_intervals.specs.declared.interval.Interval.{Interval}
 use Rattle.safe_intervals.specs.Safe.{IsIn, IsSafeInterval}
 use Rattle.static_distance.specs.Distance.{IsDistance, move}
 use Rattle.static_distance.proofs.Ways.{way_open, distance_once, goal_distance}
@@ -18,7 +17,7 @@ use Rattle.sipp_search.specs.declared.states.Spot.{Spot}
 use Rattle.sipp_search.specs.declared.states.State.{State}
 use Rattle.sipp_search.specs.declared.states.Mark.TheVariants.{Unseen, Queued, Final}
 use Rattle.sipp_search.specs.Marks.{spots_of, queued, final, offered}
-use Rattle.sipp_search.specs.Arena.{IsBlock, IsArena, touched_count}
+use Rattle.sipp_search.specs.Arena.{IsBlock, HasTimes, AreWhole, IsArena}
 use Rattle.sipp_search.specs.Progress.{IsBound, AreSpots, IsUnderWay, StartIsSeen, IsQueuedWell}
 use Rattle.sipp_search.specs.Running.{HasGrown}
 use Rattle.sipp_search.proofs.Lists.{append_cases, stands_map, map_stands}
@@ -62,12 +61,13 @@ module _ (g : Terrain) (q : Request) (horizon : ℕ) (a : Assignment) where
   start_too_far states left is far k free within in_time =
       absurd (let low : left ≤ within.left = is.least within.left within.way in omega (arith, within.below))
 
-  pub start_taken : (states : List State) (known : ℕ → Option (List Record)) (first : ℕ) → Agrees a known → IsBlock g q.goal horizon known (spots_of states) q.start first
+  pub start_taken : (states : List State) (known : ℕ → Option (List Record)) (floor first : ℕ) → floor ≡ 0 → Agrees a known → IsBlock g q.goal horizon known (spots_of states) q.start first
+      → HasTimes g q.goal horizon known floor (spots_of states) q.start first
       → ((i : ℕ) (p : Spot) → slice_get (spots_of states) i ≡ Some p → p.cell ≡ q.start → IsIn q.depart p.interval → ⊥) → StartIsSeen g q horizon a states
-  start_taken states known first agrees block none k free within in_time =
+  start_taken states known floor first zero_is agrees block times none k free within in_time =
       let records : a q.start.0 ≡ block.records = agrees q.start.0 block.records block.known_is in
       let here : covers block.records q.depart ≡ false = rw records at free in
-      let holds = block_holds g q.goal horizon known (spots_of states) q.start first q.depart block (omega arith) here in
+      let holds = block_holds g q.goal horizon known (spots_of states) floor q.start first q.depart block times (omega arith) (omega arith) here in
       let spot : Spot = record { cell = q.start; interval = holds.1; left = block.left } in
       absurd (none (first + holds.0) spot (block.each holds.0 holds.1 holds.2) refl holds.3)
 
@@ -123,17 +123,17 @@ zeros zero c f at = none-some (suc f) at
 zeros (suc n) zero f at = let bad : 0 ≡ suc f = same_Some 0 (suc f) at in omega arith
 zeros (suc n) (suc c) f at = zeros n c f at
 
-count-zeros : (lists : ℕ → List Interval) (n m : ℕ) → touched_count lists m (replicate n 0) ≡ 0
-count-zeros lists zero m = refl
-count-zeros lists (suc n) m = count-zeros lists n (m + 1)
-
 pub empty_arena_right : (g : Terrain) (goal : Cell) (horizon : ℕ) (known : ℕ → Option (List Record)) (n : ℕ) (spots : List Spot) (firsts : List ℕ) → spots ≡ [] → firsts ≡ replicate n 0
     → IsArena g goal horizon known spots firsts
 empty_arena_right g goal horizon known n spots firsts none untouched = record {
   block = λ c first at. absurd (zeros n c.0 first (rw untouched at at));
   placed = λ j p at. absurd (none-some p (rw none at at));
-  counted = λ lists are. ap length none ∙ (sym (count-zeros lists n 0) ∙ ap (touched_count lists 0) (sym untouched));
+  counted = λ lists are. (let e : length spots ≡ 0 = ap length none in omega arith);
 }
+
+pub whole_nothing : (g : Terrain) (goal : Cell) (horizon : ℕ) (known : ℕ → Option (List Record)) (floor n : ℕ) (spots : List Spot) (firsts : List ℕ) → firsts ≡ replicate n 0
+    → AreWhole g goal horizon known floor spots firsts
+whole_nothing g goal horizon known floor n spots firsts untouched c first at = absurd (zeros n c.0 first (rw untouched at at))
 
 -- a spot of the start has the start's distance
 pub left_at_start : (g : Terrain) (q : Request) (horizon : ℕ) (known : ℕ → Option (List Record)) (spots : List Spot) (firsts : List ℕ) (i left : ℕ) (p : Spot) → IsBound g q.goal

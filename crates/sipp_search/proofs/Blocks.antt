@@ -3,7 +3,7 @@ use Rattle.std.proofs.Common.{arith, subst, sym, ap, ◌∙◌, refl, inl, inr, 
 use Rattle.std.proofs.lemmas.List.{length-map, map-append, map_push}
 use Rattle.std.proofs.lemmas.Bool.{cases_order, false≢true}
 use Rattle.std.proofs.lemmas.Option.{slice_get_within, same_Some, none-some, get_or_from_slice_get, slice_get-get_or}
-use Rattle.std.specs.Prelude.{◌≡◌, ◌≢◌, ℕ, zero, suc, ◌+◌, ◌<◌, ◌≤◌, false, List, [], ◌∷◌, ◌++◌, Option, Some, None, IsSome, length, slice_get}
+use Rattle.std.specs.Prelude.{◌≡◌, ◌≢◌, ℕ, zero, suc, ◌+◌, ◌-◌, ◌<◌, ◌≤◌, false, List, [], ◌∷◌, ◌++◌, Option, Some, None, IsSome, length, slice_get}
 use Rattle.fleet_base.specs.declared.grid.Cell.{Cell}
 use Rattle.fleet_base.specs.declared.request.Record.{Record}
 use Rattle.fleet_base.specs.declared.request.Request.{Request}
@@ -12,24 +12,24 @@ use Rattle.fleet_base.proofs.TrafficLemmas.{same_cells}
 use Rattle.calendars.specs.Records.{covers}
 use Rattle.calendars.specs.Assignments.{Assignment, Agrees}
 use Rattle.safe_intervals.specs.declared.interval.Interval.{Interval}
-use Rattle.safe_intervals.specs.Safe.{IsIn, IsSafeInterval, AreSafeIntervals}
-use Rattle.safe_intervals.proofs.SafeLemmas.{safe_list_once}
+use Rattle.safe_intervals.specs.Safe.{IsIn, IsSafeInterval, AreSafeFrom}
+use Rattle.safe_intervals.proofs.SafeLemmas.{no_longer}
 use Rattle.static_distance.specs.Distance.{IsDistance}
 use Rattle.sipp_search.specs.declared.states.Spot.{Spot}
 use Rattle.sipp_search.specs.declared.states.State.{State}
 use Rattle.sipp_search.specs.Marks.{spots_of, unseen}
 use Rattle.sipp_search.specs.Answer.{length_if_known, interval_count}
-use Rattle.sipp_search.specs.Arena.{spot_of, spots_for, states_for, IsBlock, touched_count, IsArena}
+use Rattle.sipp_search.specs.Arena.{spot_of, spots_for, states_for, AreSome, IsBlock, HasTimes, AreWhole, touched_count, IsArena}
 use Rattle.sipp_search.specs.Progress.{AreSpots}
 use Rattle.sipp_search.proofs.Lists.{slice_get-append_right, stands_left, append_cases, slice_get-set_at, slice_get-set_other, set_cases, stands_map, map_stands}
 use Rattle.sipp_search.proofs.Marking.{AreUnseen}
 
 -- a list of safe intervals, by places
-safe_at : (records : List Record) (horizon : ℕ) (list : List Interval) (k : ℕ) (i : Interval) → AreSafeIntervals records horizon list → slice_get list k ≡ Some i → IsSafeInterval records horizon i
+safe_at : (records : List Record) (horizon : ℕ) (list : List Interval) (k : ℕ) (i : Interval) → AreSome records horizon list → slice_get list k ≡ Some i → IsSafeInterval records horizon i
 safe_at records horizon list k i are at =
     subst (λ (z : Interval). IsSafeInterval records horizon z) (get_or_from_slice_get list k i i at) (are.safe k i (slice_get_within list k i at))
 
-safe_place_once : (records : List Record) (horizon : ℕ) (list : List Interval) (j k : ℕ) (i : Interval) → AreSafeIntervals records horizon list
+safe_place_once : (records : List Record) (horizon : ℕ) (list : List Interval) (j k : ℕ) (i : Interval) → AreSome records horizon list
     → slice_get list j ≡ Some i → slice_get list k ≡ Some i → j ≡ k
 safe_place_once records horizon list j k i are at at' = elim (cases_order j k) [
   | inl same ↦ same
@@ -46,13 +46,28 @@ safe_place_once records horizon list j k i are at at' = elim (cases_order j k) [
         let e' : (get_or list n i).from ≡ i.from = ap (λ (z : Interval). z.from) (get_or_from_slice_get list n i i two) in
         omega (arith, (safe_at records horizon list m i are one).some)
 
+-- of two of them the one that stands later begins later
+pub rising_from : (records : List Record) (horizon : ℕ) (list : List Interval) (m n : ℕ) (i j : Interval) → AreSome records horizon list
+    → slice_get list m ≡ Some i → slice_get list n ≡ Some j → m ≤ n → i.from ≤ j.from
+rising_from records horizon list m n i j are at at' less = elim (cases_order m n) [
+  | inl same ↦ let one : i ≡ j = same_Some i j (sym at ∙ (rw same at')) in omega (arith, ap (λ (z : Interval). z.from) one)
+  | inr other ↦ elim other [
+    | inl below ↦
+        let before : (get_or list m i).to < (get_or list n i).from = are.rising m n i below (slice_get_within list n j at') in
+        omega (arith, ap (λ (z : Interval). z.to) (get_or_from_slice_get list m i i at), ap (λ (z : Interval). z.from) (get_or_from_slice_get list n j i at'), (safe_at records horizon list m i are at).some)
+    | inr above ↦ absurd (omega arith)
+  ]
+]
+
 module _ (g : Terrain) (goal : Cell) (horizon : ℕ) (known : ℕ → Option (List Record)) (spots : List Spot) where
-  -- a free time of the cell has its spot in the block
-  pub block_holds : (c : Cell) (first t : ℕ) (block : IsBlock g goal horizon known spots c first) → t ≤ horizon → covers block.records t ≡ false
+  -- a free time of the cell, unless it is too early, has its spot in the block
+  pub block_holds : (floor : ℕ) (c : Cell) (first t : ℕ) (block : IsBlock g goal horizon known spots c first) → HasTimes g goal horizon known floor spots c first
+      → floor ≤ t + block.left → t ≤ horizon → covers block.records t ≡ false
       → (k : ℕ) × (i : Interval) × (slice_get block.intervals k ≡ Some i) × IsIn t i
-  block_holds c first t block in_time free =
-      let any = block.safe.each_time t in_time free in
-      (any.0, any.1, slice_get-get_or block.intervals any.0 any.1 any.2 ∙ ap (λ (z : Interval). Some z) any.3, any.4)
+  block_holds floor c first t block times late in_time free =
+      let has = times block.records block.left t block.known_is block.distance late in_time free in
+      let alone = block.alone (first + has.0) has.1 has.2 has.3 in
+      (alone.0, alone.1, alone.3, subst (λ (z : Interval). IsIn t z) (ap (λ (z : Spot). z.interval) alone.4) has.4)
 
   pub block_cell : (c : Cell) (first k : ℕ) (i : Interval) (block : IsBlock g goal horizon known spots c first) → slice_get block.intervals k ≡ Some i
       → (p : Spot) × (slice_get spots (first + k) ≡ Some p) × (p.cell ≡ c) × (p.interval ≡ i)
@@ -141,10 +156,10 @@ module _ (lists : ℕ → List Interval) where
       omega (arith, count_if (known n) (lists n) here)
 
 -- a cell is touched for the first time
-module _ (g : Terrain) (goal : Cell) (horizon : ℕ) (known known' : ℕ → Option (List Record)) (spots : List Spot) (firsts : List ℕ) (c : Cell) (left : ℕ)
+module _ (g : Terrain) (goal : Cell) (horizon : ℕ) (known known' : ℕ → Option (List Record)) (spots : List Spot) (firsts : List ℕ) (c : Cell) (left low : ℕ)
     (records : List Record) (list : List Interval) (arena : IsArena g goal horizon known spots firsts) (untouched : slice_get firsts c.0 ≡ Some 0)
     (others : (d : ℕ) → d ≢ c.0 → known' d ≡ known d) (kept : (d : ℕ) → IsSome (known d) → known' d ≡ known d) (known_is : known' c.0 ≡ Some records)
-    (safe : AreSafeIntervals records horizon list) (distance : IsDistance g goal c left) where
+    (safe : AreSafeFrom records horizon low list) (distance : IsDistance g goal c left) where
   inside : c.0 < length firsts
   inside = slice_get_within firsts c.0 0 untouched
 
@@ -167,7 +182,7 @@ module _ (g : Terrain) (goal : Cell) (horizon : ℕ) (known known' : ℕ → Opt
     records = records;
     known_is = known_is;
     intervals = list;
-    safe = safe;
+    safe = record { safe = safe.safe; rising = safe.rising };
     left = left;
     distance = distance;
     each = λ k i at. slice_get-append_right spots (spots_for c left list) k ∙ stands_map (spot_of c left) list k i at;
@@ -200,17 +215,42 @@ module _ (g : Terrain) (goal : Cell) (horizon : ℕ) (known known' : ℕ → Opt
           )
     ];
     counted = λ lists are.
-        (let before : length spots ≡ touched_count lists 0 firsts = arena.counted lists (λ d rs is. are d rs (kept d (some_if (known d) rs is) ∙ is)) in
-        let same : list ≡ lists c.0 = safe_list_once records horizon list (lists c.0) safe (are c.0 records known_is) in
+        (let before : length spots ≤ touched_count lists 0 firsts = arena.counted lists (λ d rs is. are d rs (kept d (some_if (known d) rs is) ∙ is)) in
+        let fewer : length list ≤ length (lists c.0) = no_longer records horizon list (lists c.0) low safe (are c.0 records known_is) in
         let z : 0 + c.0 ≡ c.0 = omega arith in
         let more : touched_count lists 0 (set firsts c.0 (suc (length spots))) ≡ touched_count lists 0 firsts + length (lists (0 + c.0)) =
         count-touched lists firsts 0 c.0 (length spots) untouched in
-        let length_is : length (lists (0 + c.0)) ≡ length list = ap (λ (n : ℕ). length (lists n)) z ∙ ap length (sym same) in
+        let length_is : length (lists (0 + c.0)) ≡ length (lists c.0) = ap (λ (n : ℕ). length (lists n)) z in
         omega (arith, length-append spots (spots_for c left list), length-map list (spot_of c left)));
   }
     where
       some_if : (o : Option (List Record)) (rs : List Record) → o ≡ Some rs → IsSome o
       some_if o rs is = rw is refl
+
+  -- times are left out that lie before the floor, less the way that is left
+  pub whole_touched : (floor : ℕ) → low ≤ floor - left → ((j k : ℕ) → IsDistance g goal c j → IsDistance g goal c k → j ≡ k) → AreWhole g goal horizon known floor spots firsts
+      → AreWhole g goal horizon known' floor (spots ++ spots_for c left list) (set firsts c.0 (suc (length spots)))
+  whole_touched floor early once whole d f at records' left' t is distance' late in_time free = elim (set_cases firsts c.0 d.0 (suc (length spots)) (suc f) inside at) [
+    | inl same ↦
+        let cell : c ≡ d = same_cells c d (sym same.0) in
+        let first : length spots ≡ f = (let e = same.1 in omega arith) in
+        let is' : known' c.0 ≡ Some records' = subst (λ (z : Cell). known' z.0 ≡ Some records') (sym cell) is in
+        let rs : records ≡ records' = same_Some records records' (sym known_is ∙ is') in
+        let mine : left ≡ left' = once left left' distance (subst (λ (z : Cell). IsDistance g goal z left') (sym cell) distance') in
+        let any = safe.each_time t (omega arith) in_time (subst (λ (z : List Record). covers z t ≡ false) (sym rs) free) in
+        let there : slice_get list any.0 ≡ Some any.1 = slice_get-get_or list any.0 any.1 any.2 ∙ ap (λ (z : Interval). Some z) any.3 in
+        let stands : slice_get (spots ++ spots_for c left list) (length spots + any.0) ≡ Some (spot_of c left any.1) =
+        slice_get-append_right spots (spots_for c left list) any.0 ∙ stands_map (spot_of c left) list any.0 any.1 there in (
+          any.0,
+          spot_of c left any.1,
+          subst (λ (n : ℕ). slice_get (spots ++ spots_for c left list) (n + any.0) ≡ Some (spot_of c left any.1)) first stands,
+          cell,
+          any.4,
+        )
+    | inr other ↦
+        let old = whole d f other.1 records' left' t (sym (others d.0 other.0) ∙ is) distance' late in_time free in
+        (old.0, old.1, stands_left spots (spots_for c left list) (f + old.0) old.1 old.2, old.3, old.4)
+  ]
 
 pub states_unseen : (c : Cell) (left : ℕ) (list : List Interval) → AreUnseen (states_for c left list)
 states_unseen c left [] k s at = absurd (none-some s at)

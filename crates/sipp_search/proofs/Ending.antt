@@ -71,6 +71,9 @@ settled_sound g q horizon known size old new limit taken sound settles = record 
   bound = ap (λ (z : Queue). z.bound) settles.queue_is ∙ sound.bound;
   count = rw settles.firsts_are sound.count;
   arranged = rw (settled_spots old new limit taken settles, settles.firsts_are) sound.arranged;
+  whole = λ c first at records left t is distance late in_time free.
+      (let floor : new.queue.floor ≡ taken.arrival + taken.spot.left = ap (λ (z : Queue). z.floor) settles.queue_is in
+      rw (settled_spots old new limit taken settles) (sound.whole c first (rw settles.firsts_are at at) records left t is distance (omega (arith, settles.rises)) in_time free));
   aimed = rw settles.distances_are sound.aimed;
   goal_is = rw settles.distances_are sound.goal_is;
   room_is = rw settles.distances_are sound.room_is;
@@ -174,7 +177,7 @@ interval_grows old new lists (suc n) kept = omega (arith, length_grows (old n) (
 pub states_within : (g : Terrain) (q : Request) (horizon : ℕ) (known : ℕ → Option (List Record)) (size : ℕ) (arena : Arena) (lists : ℕ → List Interval)
     → IsSound g q horizon known size arena → AreListsOf known horizon lists → final_count arena.states.items ≤ interval_count known lists size
 states_within g q horizon known size arena lists sound are =
-    let all : length (spots_of arena.states.items) ≡ touched_count lists 0 arena.firsts = sound.arranged.counted lists are in
+    let all : length (spots_of arena.states.items) ≤ touched_count lists 0 arena.firsts = sound.arranged.counted lists are in
     let touched : touched_count lists 0 arena.firsts + interval_count known lists 0 ≤ interval_count known lists size =
     touched_within lists known size arena.firsts 0 (omega (arith, sound.count)) (λ c f at. is_known c f at) in
     omega (arith, count_within arena.states.items, length-map arena.states.items (λ (z : State). z.spot))

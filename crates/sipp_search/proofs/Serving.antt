@@ -13,7 +13,7 @@ use Rattle.static_distance.specs.Aim.{room, IsAimed, AnswersDistance}
 use Rattle.sipp_search.specs.declared.states.State.{State}
 use Rattle.sipp_search.specs.declared.states.Arena.{Arena}
 use Rattle.sipp_search.specs.Marks.{spots_of, keys_of}
-use Rattle.sipp_search.proofs.Beginning.{bound_of, empty_arena_right}
+use Rattle.sipp_search.proofs.Beginning.{bound_of, empty_arena_right, whole_nothing}
 use Rattle.sipp_search.specs.Running.{IsReady, IsSound, Serves, HasGrown}
 
 module _ (g : Terrain) (q : Request) (horizon : ℕ) (known : ℕ → Option (List Record)) (size : ℕ) (arena : Arena) where
@@ -29,6 +29,7 @@ module _ (g : Terrain) (q : Request) (horizon : ℕ) (known : ℕ → Option (Li
     bound = sound.bound;
     count = sound.count;
     arranged = sound.arranged;
+    whole = sound.whole;
     aimed = aimed;
     goal_is = goal_is ∙ sound.goal_is;
     room_is = room_is ∙ sound.room_is;
@@ -53,6 +54,7 @@ sound_begun g q horizon arena none unqueued untouched bound room_is aimed goal_i
   bound = bound;
   count = ap length untouched ∙ length-replicate (length g.cells) 0;
   arranged = empty_arena_right g q.goal horizon known (length g.cells) (spots_of arena.states.items) arena.firsts (ap spots_of none) untouched;
+  whole = whole_nothing g q.goal horizon known arena.queue.floor (length g.cells) (spots_of arena.states.items) arena.firsts untouched;
   aimed = aimed;
   goal_is = goal_is;
   room_is = room_is;

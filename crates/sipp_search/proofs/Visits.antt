@@ -3,7 +3,7 @@ use Rattle.std.proofs.Common.{arith, subst, sym, ap, ◌∙◌, refl, inl, inr, 
 use Rattle.std.proofs.lemmas.Bool.{cases_lt}
 use Rattle.std.proofs.lemmas.Option.{slice_get_within, slice_get_cases, same_Some}
 use Rattle.std.proofs.lemmas.List.{length-map}
-use Rattle.std.specs.Prelude.{◌≡◌, ◌≢◌, ℕ, ◌+◌, ◌-◌, ◌<◌, ◌≤◌, false, List, Option, Some, length, slice_get}
+use Rattle.std.specs.Prelude.{◌≡◌, ◌≢◌, ℕ, ◌+◌, ◌-◌, ◌<◌, ◌≤◌, false, List, Option, Some, length, slice_get, ◌⊎◌}
 use Rattle.fleet_base.specs.declared.grid.Cell.{Cell}
 use Rattle.fleet_base.specs.declared.request.Record.{Record}
 use Rattle.fleet_base.specs.declared.request.Request.{Request}
@@ -12,20 +12,21 @@ use Rattle.fleet_base.specs.Reach.{Reached}
 use Rattle.calendars.specs.Records.{covers}
 use Rattle.calendars.specs.Assignments.{Assignment, Agrees, traffic_by}
 use Rattle.safe_intervals.specs.declared.interval.Interval.{Interval}
-use Rattle.safe_intervals.specs.Safe.{IsSafeInterval}
+use Rattle.safe_intervals.specs.Safe.{IsIn, IsSafeInterval}
 use Rattle.sipp_search.specs.declared.states.Spot.{Spot}
 use Rattle.sipp_search.specs.declared.states.State.{State}
 use Rattle.sipp_search.specs.declared.states.Mark.{Mark}
 use Rattle.sipp_search.specs.declared.states.Mark.TheVariants.{Final}
 use Rattle.sipp_search.specs.Marks.{spots_of, final, offered}
 use Rattle.sipp_search.specs.Entry.{CanEnter, IsEntry}
-use Rattle.sipp_search.specs.Arena.{IsBlock}
+use Rattle.static_distance.specs.Distance.{IsDistance}
+use Rattle.sipp_search.specs.Arena.{IsBlock, HasTimes}
 use Rattle.sipp_search.specs.Progress.{IsBound, MayMove, AreSpots, IsArrived, IsQueuedWell, AreQueuedWell, IsUnderWay, Improves}
 use Rattle.sipp_search.specs.Visiting.{IsSource, HasEntered, HasLed}
 use Rattle.sipp_search.proofs.Lists.{stands_map}
 use Rattle.sipp_search.proofs.Moves.{wait_until, move_on}
 use Rattle.sipp_search.proofs.Marking.{marked, offered_improves, offered_well, offered_seen, improved_way}
-use Rattle.sipp_search.proofs.Blocks.{block_holds}
+use Rattle.sipp_search.proofs.Blocks.{block_holds, rising_from}
 
 abbrev pub IsVisited : Terrain → Request → ℕ → Assignment → List State → ℕ → ℕ → List Record → List Record → Spot → ℕ → Spot → Type 0
 IsVisited g q horizon a states cursor x here there from r to = IsUnderWay g q horizon a states cursor x × HasEntered here there horizon states from r to
@@ -102,23 +103,29 @@ module _ (g : Terrain) (q : Request) (horizon : ℕ) (a : Assignment) (old now :
   pub none_entered : HasEnteredUntil first
   none_entered i p low high at = absurd (omega arith)
 
-  -- where the spots until j were entered and the block is over, each move was made
-  pub has_led : (known : ℕ → Option (List Record)) (j : ℕ) → IsBound g q.goal → Agrees a known → AreSpots g q horizon a (spots_of old)
-      → IsBlock g q.goal horizon known (spots_of old) to first → first ≤ j
-      → ((p : Spot) → slice_get (spots_of old) j ≡ Some p → p.cell ≢ to) → HasEnteredUntil j → HasLed g q horizon a now from r to
-  has_led known j bound agrees spots block run no_more entered t k since until move near in_time =
+  -- the block is over there, or its spot begins when a move from the first spot is too late
+  abbrev pub IsOutOf : Spot → Type 0
+  IsOutOf p = (p.cell ≢ to) ⊎ (from.interval.to + 1 < p.interval.from)
+
+  -- where the spots until j were entered and no later one can be, each move was made
+  pub has_led : (known : ℕ → Option (List Record)) (floor j : ℕ) → IsBound g q.goal → Agrees a known → AreSpots g q horizon a (spots_of old)
+      → IsBlock g q.goal horizon known (spots_of old) to first → HasTimes g q.goal horizon known floor (spots_of old) to first
+      → ((left : ℕ) → IsDistance g q.goal to left → floor ≤ r + 1 + left) → first ≤ j
+      → ((p : Spot) → slice_get (spots_of old) j ≡ Some p → IsOutOf p) → HasEnteredUntil j → HasLed g q horizon a now from r to
+  has_led known floor j bound agrees spots block times late run no_more entered t k since until move near in_time =
       let records : a to.0 ≡ block.records = agrees to.0 block.records block.known_is in
       let free : covers block.records (t + 1) ≡ false = rw records at move.untaken in
-      let holds = block_holds g q.goal horizon known (spots_of old) to first (t + 1) block (omega arith) free in
+      let low : floor ≤ r + 1 + block.left = late block.left block.distance in
+      let holds = block_holds g q.goal horizon known (spots_of old) floor to first (t + 1) block times (omega arith) (omega arith) free in
       let spot : Spot = record { cell = to; interval = holds.1; left = block.left } in
       let at : slice_get (spots_of old) (first + holds.0) ≡ Some spot = block.each holds.0 holds.1 holds.2 in
       let left : block.left ≤ near.left = block.distance.least near.left near.way in
-      entered (first + holds.0) spot (omega arith) (before holds.0 holds.1 holds.2) at t
+      entered (first + holds.0) spot (omega arith) (before holds.0 holds.1 holds.2 t until holds.3) at t
       (record { not_before = since; until = until; lands = holds.3; unbarred = move.unbarred }) (omega (arith, near.below))
     where
-      -- the block is a run, and its end is at j at the latest
-      before : (n : ℕ) (i : Interval) → slice_get block.intervals n ≡ Some i → first + n < j
-      before n i at = elim (cases_lt (first + n) j) [
+      -- the block is a run in rising order, and no move leads into it from j on
+      before : (n : ℕ) (i : Interval) → slice_get block.intervals n ≡ Some i → (t : ℕ) → t ≤ from.interval.to → IsIn (t + 1) i → first + n < j
+      before n i at t until lands = elim (cases_lt (first + n) j) [
         | inl less ↦ less
         | inr past ↦
             let e : first + (j - first) ≡ j = omega arith in
@@ -127,7 +134,10 @@ module _ (g : Terrain) (q : Request) (horizon : ℕ) (a : Assignment) (old now :
               | inl there ↦
                   let spot : Spot = record { cell = to; interval = there.0; left = block.left } in
                   let stands : slice_get (spots_of old) j ≡ Some spot = rw e at (block.each (j - first) there.0 there.2) in
-                  absurd (no_more spot stands refl)
+                  elim (no_more spot stands) [
+                    | inl other ↦ absurd (other refl)
+                    | inr late ↦ let rises : there.0.from ≤ i.from = rising_from block.records horizon block.intervals (j - first) n there.0 i block.safe there.2 at (omega arith) in absurd (omega arith)
+                  ]
               | inr over ↦ omega (arith, over.0)
             ]
       ]

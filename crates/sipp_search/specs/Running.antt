@@ -15,7 +15,7 @@ use Rattle.sipp_search.specs.declared.states.Arena.{Arena}
 use Rattle.sipp_search.specs.declared.states.Taken.{Taken}
 use Rattle.sipp_search.specs.declared.states.Mark.TheVariants.{Unseen}
 use Rattle.sipp_search.specs.Marks.{spots_of, keys_of, queued, final}
-use Rattle.sipp_search.specs.Arena.{IsArena}
+use Rattle.sipp_search.specs.Arena.{IsArena, AreWhole}
 use Rattle.sipp_search.specs.Progress.{IsBound, IsWithin, HasFinal, AreSpots, IsFinalWell}
 
 -- what is asked is right, and the view has the cells of the grid
@@ -30,6 +30,7 @@ pub record IsSound (g : Terrain) (q : Request) (horizon : ℕ) (known : ℕ → 
   pub bound : arena.queue.bound ≡ horizon
   pub count : length arena.firsts ≡ size
   pub arranged : IsArena g q.goal horizon known (spots_of arena.states.items) arena.firsts
+  pub whole : AreWhole g q.goal horizon known arena.queue.floor (spots_of arena.states.items) arena.firsts
   pub aimed : IsAimed g arena.distances
   pub goal_is : arena.distances.goal ≡ q.goal
   pub room_is : room arena.distances ≡ length g.cells

@@ -156,7 +156,8 @@ pub fn read_back<V: CalendarView>(
     requires over { (a : Assignment) → Agrees a (V.known view.now) → IsOver task.now.grid.now task.now.request task.now.horizon a arena.now.states.items arrival }
     ensures { IfOk result (λ v. (a : Assignment) → Agrees a (V.known view.now) → ReadsBack task.now.grid.now (traffic_by a) task.now.request task.now.request.goal arrival v.items) }
 {
-    let mut cells = Vec::new(alloc);
+    let room = arrival.saturating_sub(task.request.depart) as usize + 1;
+    let mut cells = Vec::with_capacity(alloc, room)?;
     let mut at = task.request.goal;
     let mut time = arrival;
     while let Some(hop) = before(task, view, arena, at, time) {

@@ -13,10 +13,12 @@ ghost use Rattle.sipp_search.specs.Marks.{spots_of, keys_of, offered, offered_ma
 ghost use Rattle.std.specs.Bool.{OnTrue, OnFalse};
 ghost use Rattle.sipp_search.specs.declared.states.Mark.TheVariants.{Queued};
 ghost use Rattle.sipp_search.specs.Entry.{AnswersEntry};
-ghost use Rattle.sipp_search.specs.Arena.{IsBlock};
+ghost use Rattle.sipp_search.specs.Arena.{IsBlock, HasTimes};
+ghost use Rattle.static_distance.specs.Distance.{IsDistance};
 ghost use Rattle.fleet_base.specs.declared.request.Record.{Record};
 ghost use Rattle.sipp_search.specs.Progress.{IsBound, IsArrived, AreSpots, IsUnderWay, Improves};
 ghost use Rattle.sipp_search.specs.Visiting.{IsSource, HasEntered, HasLed};
+ghost use Rattle.static_distance.specs.Levels.{IsPlaceOf};
 
 use crate::states::{Arena, Mark, Spot, State, Taken};
 use crate::task::Task;
@@ -25,6 +27,7 @@ use bucket_queue::BucketQueue;
 use calendars::{Calendar, CalendarView, crossing};
 use fleet_base::{Cell, Memory, Side};
 use safe_intervals::Interval;
+use static_distance::{Place, neighbour_at, place_of};
 
 // The least time at which an agent that is in the first interval since that time can move into the second.
 fn entry_time(
@@ -165,13 +168,20 @@ fn reach_into<V: CalendarView>(
     ensures improves { OnOk result (Improves states.old.items states.new.items) }
     ensures led { OnOk result ((g : Terrain) (q : Request) (a : Assignment) (x : ℕ) → Agrees a (V.known view.now) → IsSource g q horizon a from arrival to
         → AreSpots g q horizon a (spots_of states.old.items) → IsBlock g q.goal horizon (V.known view.now) (spots_of states.old.items) to first
+        → HasTimes g q.goal horizon (V.known view.now) queue.old.floor (spots_of states.old.items) to first
+        → ((left : ℕ) → IsDistance g q.goal to left → queue.old.floor ≤ arrival + 1 + left)
         → IsBound g q.goal → IsUnderWay g q horizon a states.old.items queue.old.floor x
         → IsUnderWay g q horizon a states.new.items queue.old.floor x × HasLed g q horizon a states.new.items from arrival to) }
 {
     let here = view.calendar(from.cell);
     let there = view.calendar(to);
     for j in first..states.len() {
-        if states[j].spot.cell.0 != to.0 {
+        let spot = states[j].spot;
+        if spot.cell.0 != to.0 {
+            return Ok(());
+        }
+        // Into this interval and all later ones no move leads in time.
+        if spot.interval.from > from.interval.to + 1 {
             return Ok(());
         }
         visit(here, there, states, queue, from, arrival, j, horizon)?;
@@ -180,18 +190,21 @@ fn reach_into<V: CalendarView>(
 }
 
 // Makes the moves out of the spot, where the agent is since `arrival`, into the cell on that side.
+#[inline(always)]
 fn move_to<V: CalendarView>(
     task: &Task,
     view: &mut V,
     arena: &mut Arena,
     from: Spot,
     arrival: u32,
+    place: Place,
     side: Side,
 ) -> Result<(), Memory>
     requires ready { IsReady task.now.grid.now task.now.request task.now.horizon (V.size view.old) }
     requires sound { IsSound task.now.grid.now task.now.request task.now.horizon (V.known view.old) (V.size view.old) arena.old }
     requires placed { (i : ℕ) × (slice_get (spots_of arena.old.states.items) i ≡ Some from) }
     requires arrived { IsIn arrival from.interval }
+    requires place { IsPlaceOf task.now.grid.now from.cell place }
     requires taken { arena.old.queue.floor ≡ arrival + from.left }
     ensures cells { V.size view.new ≡ V.size view.old }
     ensures went { V.went view.old view.new }
@@ -207,7 +220,7 @@ fn move_to<V: CalendarView>(
         → IsUnderWay task.now.grid.now task.now.request task.now.horizon a arena.new.states.items arena.old.queue.floor x
         × ((c : ACell) → IsBeside task.now.grid.now side from.cell c → HasLed task.now.grid.now task.now.request task.now.horizon a arena.new.states.items from arrival c)) }
 {
-    let Some(to) = task.grid.neighbour(from.cell, side) else {
+    let Some(to) = neighbour_at(task.grid, from.cell, place, side) else {
         return Ok(());
     };
     let Some(first) = block_of(task, view, arena, to)? else {
@@ -261,8 +274,10 @@ pub fn expand<V: CalendarView>(
         → IsUnderWay task.now.grid.now task.now.request task.now.horizon a arena.old.states.items arena.old.queue.floor taken.id
         → IsUnderWay task.now.grid.now task.now.request task.now.horizon a arena.new.states.items arena.old.queue.floor x) }
 {
+    let place = place_of(task.grid, taken.spot.cell);
     for rank in 0..4 {
-        move_to(task, view, arena, taken.spot, taken.arrival, side_at(rank))?;
+        let side = side_at(rank);
+        move_to(task, view, arena, taken.spot, taken.arrival, place, side)?;
     }
     Ok(())
 }

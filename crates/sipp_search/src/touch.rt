@@ -2,10 +2,10 @@ ghost use Rattle.std.specs.Prelude.{◌≡◌, ◌≢◌, ℕ, suc, ◌+◌, ◌
 ghost use Rattle.fleet_base.specs.declared.grid.Cell.{Cell as ACell};
 ghost use Rattle.fleet_base.specs.Terrain.{Terrain};
 ghost use Rattle.safe_intervals.specs.declared.interval.Interval.{Interval as AnInterval};
-ghost use Rattle.safe_intervals.specs.Safe.{AreSafeIntervals};
+ghost use Rattle.safe_intervals.specs.Safe.{AreSafeFrom};
 ghost use Rattle.static_distance.specs.Distance.{IsWay, IsDistance};
 ghost use Rattle.sipp_search.specs.Marks.{spots_of, keys_of, unseen};
-ghost use Rattle.sipp_search.specs.Arena.{states_for, IsBlock, IsArena};
+ghost use Rattle.sipp_search.specs.Arena.{states_for, IsBlock, HasTimes, AreWhole, IsArena};
 ghost use Rattle.sipp_search.specs.Running.{IsReady, IsSound, Serves, KeepsKnown, HasGrown};
 
 use crate::states::{Arena, Mark, Spot, State};
@@ -13,7 +13,7 @@ use crate::task::Task;
 use bucket_queue::BucketQueue;
 use calendars::{Calendar, CalendarView};
 use fleet_base::{Cell, Memory};
-use safe_intervals::next_gap;
+use safe_intervals::{begun_by, gap_after};
 
 fn add_state(states: &mut Vec<State>, queue: &mut BucketQueue, spot: Spot) -> Result<(), Memory>
     requires { queue.old.keys ≡ keys_of states.old.items }
@@ -29,23 +29,25 @@ fn add_state(states: &mut Vec<State>, queue: &mut BucketQueue, spot: Spot) -> Re
     Ok(())
 }
 
-// Adds an unseen state for each safe interval of a cell.
+// Adds an unseen state for each safe interval of a cell that ends at that time or later.
 fn add_states(
     states: &mut Vec<State>,
     queue: &mut BucketQueue,
     calendar: &Calendar,
     cell: Cell,
     left: u32,
+    since: u32,
     horizon: u32,
 ) -> Result<(), Memory>
     requires horizon { horizon ≤ 8000 }
     requires paired { queue.old.keys ≡ keys_of states.old.items }
-    ensures states { OnOk result ((list : List AnInterval) × AreSafeIntervals calendar.now horizon list × (states.new.items ≡ states.old.items ++ states_for cell left list)) }
+    ensures states { OnOk result ((list : List AnInterval) × AreSafeFrom calendar.now horizon since list × (states.new.items ≡ states.old.items ++ states_for cell left list)) }
     ensures queue { OnOk result (queue.new ≡ record queue.old { keys = keys_of states.new.items }) }
     ensures bound { queue.new.bound ≡ queue.old.bound }
 {
-    let mut from = 0;
-    while let Some(interval) = next_gap(calendar, from, horizon) {
+    let mut from = since;
+    let mut begun = begun_by(calendar, 0, from);
+    while let Some(interval) = gap_after(calendar, begun, from, horizon) {
         let spot = Spot {
             cell,
             interval,
@@ -53,6 +55,7 @@ fn add_states(
         };
         add_state(states, queue, spot)?;
         from = interval.to + 1;
+        begun = begun_by(calendar, begun, from);
     }
     Ok(())
 }
@@ -69,6 +72,7 @@ fn touch<V: CalendarView>(
     requires untouched { slice_get arena.old.firsts cell.0 ≡ Some 0 }
     requires horizon { horizon ≤ 8000 }
     requires paired { arena.old.queue.keys ≡ keys_of arena.old.states.items }
+    requires bound { arena.old.queue.bound ≡ horizon }
     ensures cells { V.size view.new ≡ V.size view.old }
     ensures went { V.went view.old view.new }
     ensures others { (c : ℕ) → c ≢ cell.0 → V.known view.new c ≡ V.known view.old c }
@@ -79,6 +83,10 @@ fn touch<V: CalendarView>(
     ensures queue { OnOk result (arena.new.queue ≡ record arena.old.queue { keys = keys_of arena.new.states.items }) }
     ensures states { OnOk result ((list : List AnInterval) × (arena.new.states.items ≡ arena.old.states.items ++ states_for cell left list)) }
     ensures touched { IfOk result (λ first. slice_get arena.new.firsts cell.0 ≡ Some (suc first)) }
+    ensures whole { OnOk result ((g : Terrain) (goal : ACell) → ((j k : ℕ) → IsDistance g goal cell j → IsDistance g goal cell k → j ≡ k)
+        → IsArena g goal horizon (V.known view.old) (spots_of arena.old.states.items) arena.old.firsts
+        → AreWhole g goal horizon (V.known view.old) arena.old.queue.floor (spots_of arena.old.states.items) arena.old.firsts
+        → IsDistance g goal cell left → AreWhole g goal horizon (V.known view.new) arena.new.queue.floor (spots_of arena.new.states.items) arena.new.firsts) }
     ensures arena { OnOk result ((g : Terrain) (goal : ACell) → IsArena g goal horizon (V.known view.old) (spots_of arena.old.states.items) arena.old.firsts
         → IsDistance g goal cell left → IsArena g goal horizon (V.known view.new) (spots_of arena.new.states.items) arena.new.firsts) }
 {
@@ -88,12 +96,15 @@ fn touch<V: CalendarView>(
     if first >= u32::MAX as usize {
         return Err(Memory);
     }
+    // Who comes there from now on has at least the key that was taken last.
+    let since = arena.queue.floor().saturating_sub(left as usize) as u32;
     add_states(
         &mut arena.states,
         &mut arena.queue,
         view.calendar(cell),
         cell,
         left,
+        since,
         horizon,
     )?;
     arena.firsts.set(cell.0 as usize, first as u32 + 1);
@@ -120,6 +131,7 @@ pub fn block_of<V: CalendarView>(
     ensures floor { OnOk result (arena.new.queue.floor ≡ arena.old.queue.floor) }
     ensures grown { OnOk result (HasGrown arena.old.states.items arena.new.states.items) }
     ensures block { IfOk result (λ o. IfSome o (λ first. IsBlock task.now.grid.now task.now.request.goal task.now.horizon (V.known view.new) (spots_of arena.new.states.items) cell first)) }
+    ensures times { IfOk result (λ o. IfSome o (λ first. HasTimes task.now.grid.now task.now.request.goal task.now.horizon (V.known view.new) arena.new.queue.floor (spots_of arena.new.states.items) cell first)) }
     ensures none { IfOk result (λ o. IfNone o ((k : ℕ) → ¬ (IsWay task.now.grid.now task.now.request.goal cell k))) }
 {
     let touched = arena.firsts.get(cell.0 as usize);

@@ -1,12 +1,13 @@
 -- How far cells beside each other are from a place.
-use Rattle.std.proofs.Common.{◌≡◌, ℕ, ◌+◌, ◌/◌, ◌%◌, ◌<◌, ◌≤◌, Bool, true, false, nat_lt, refl, ap, ◌∙◌, arith}
+use Rattle.std.proofs.Common.{length, ◌≡◌, ℕ, ◌+◌, ◌/◌, ◌%◌, ◌<◌, ◌≤◌, Bool, true, false, nat_lt, refl, ap, ◌∙◌, arith}
 use Rattle.std.specs.Bool.{OnTrue, OnFalse}
 use Rattle.std.proofs.lemmas.Nat.{mod-mul-add, div-mul-add}
 use Rattle.std.proofs.lemmas.Bool.{ltb-true, ltb-false}
 use Rattle.fleet_base.specs.declared.grid.Cell.{Cell}
 use Rattle.fleet_base.specs.declared.grid.Side.{Side}
 use Rattle.fleet_base.specs.declared.grid.Side.TheVariants.{Up, Left, Right, Down}
-use Rattle.fleet_base.specs.Terrain.{Terrain, IsAt, IsBeside}
+use Rattle.fleet_base.specs.Terrain.{Terrain, IsTerrain, IsAt, IsBeside}
+use Rattle.fleet_base.proofs.GridLemmas.{placed}
 use Rattle.static_distance.specs.declared.place.Place.{Place}
 use Rattle.static_distance.specs.Levels.{IsPlaceOf, gap, apart}
 
@@ -15,6 +16,16 @@ column_at g c x y (inside, high, is) = rw is (mod-mul-add y g.width x inside)
 
 row_at : (g : Terrain) (c : Cell) (x y : ℕ) → IsAt g c x y → c.0 / g.width ≡ y
 row_at g c x y (inside, high, is) = rw is (div-mul-add y g.width x inside)
+
+-- a cell is where its place says
+pub at_place : (g : Terrain) (c : Cell) (place : Place) → IsTerrain g → c.0 < length g.cells → IsPlaceOf g c place → IsAt g c place.column place.row
+at_place g c place is within of = rw (of.0, of.1) (placed g c is within)
+
+-- nothing is on the right of the last column
+pub none_right : (g : Terrain) (c d : Cell) (place : Place) → IsPlaceOf g c place → g.width ≤ place.column + 1 → ¬ (IsBeside g Right c d)
+none_right g c d place of last (x, y, at, to) =
+    let column : place.column ≡ x = of.0 ∙ column_at g c x y at in
+    omega (arith, to.0)
 
 -- the distance to a place from column x and row y
 apart_at : (g : Terrain) (toward : Place) (c : Cell) (x y : ℕ) → IsAt g c x y → apart g toward c ≡ gap x toward.column + gap y toward.row

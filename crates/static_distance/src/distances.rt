@@ -1,7 +1,7 @@
 ghost use Rattle.std.specs.Prelude.{◌≡◌, ℕ, ◌+◌, ◌*◌, ◌<◌, ◌≤◌, [], ◌∷◌, ◌++◌, length, Some, IfOk, OnOk, IfSome, IfNone, slice_get};
 ghost use Rattle.std.specs.Bool.{OnTrue, OnFalse};
 
-use crate::place::{Place, is_closer, moves_between, place_of};
+use crate::place::{Place, is_closer, moves_between, neighbour_at, place_of};
 use fleet_base::{Cell, Grid, Memory, Side};
 use stamped_list::StampedList;
 use std::alloc::Global;
@@ -166,7 +166,7 @@ impl Distances {
         ensures count { OnOk result (waiting self.new ≤ waiting self.old + 1) }
         ensures entered { OnOk result ((k : ℕ) → IsExpanding grid.now cell k (levels_of self.old) → HasEntered grid.now side cell k (levels_of self.old) (levels_of self.new)) }
     {
-        let Some(next) = grid.neighbour(cell, side) else {
+        let Some(next) = neighbour_at(grid, cell, place, side) else {
             return Ok(());
         };
         if !grid.is_open(next) {

@@ -9,3 +9,4 @@ mod place;
 mod tests;
 
 pub use distances::Distances;
+pub use place::{Place, neighbour_at, place_of};

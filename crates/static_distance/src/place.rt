@@ -1,4 +1,4 @@
-ghost use Rattle.std.specs.Prelude.{◌≡◌, ◌+◌, ◌<◌, length};
+ghost use Rattle.std.specs.Prelude.{◌≡◌, ◌+◌, ◌<◌, length, IfSome, IfNone};
 ghost use Rattle.std.specs.Bool.{OnTrue, OnFalse};
 ghost use Rattle.fleet_base.specs.Terrain.{Terrain, IsBeside};
 ghost use Rattle.fleet_base.specs.declared.grid.Cell.{Cell as ACell};
@@ -6,15 +6,15 @@ ghost use Rattle.static_distance.specs.Levels.{IsPlaceOf, between, apart};
 
 use fleet_base::{Cell, Grid, Side};
 
-// A column and a row.
-#[derive(Clone, Copy)]
-pub(crate) struct Place {
-    pub(crate) column: u32,
-    pub(crate) row: u32,
+/// A column and a row.
+#[derive(Clone, Copy, Debug, PartialEq, Eq, Hash)]
+pub struct Place {
+    pub column: u32,
+    pub row: u32,
 }
 
-// Where the cell is.
-pub(crate) fn place_of(grid: &Grid, cell: Cell) -> Place
+/// Where the cell is.
+pub fn place_of(grid: &Grid, cell: Cell) -> Place
     requires { cell.0 < length grid.now.cells }
     ensures place { IsPlaceOf grid.now cell result }
     ensures near { (result.column < 2048) × (result.row < 2048) }
@@ -46,5 +46,24 @@ pub(crate) fn is_closer(place: Place, toward: Place, side: Side) -> bool
         Side::Left => toward.column < place.column,
         Side::Right => place.column < toward.column,
         Side::Down => place.row < toward.row,
+    }
+}
+
+/// The cell on that side of a cell whose place is known, or none where that side is outside. It divides nothing.
+#[inline(always)]
+pub fn neighbour_at(grid: &Grid, cell: Cell, place: Place, side: Side) -> Option<Cell>
+    requires cell { cell.0 < length grid.now.cells }
+    requires place { IsPlaceOf grid.now cell place }
+    ensures beside { IfSome result (λ d. IsBeside grid.now side cell d) }
+    ensures inside { IfSome result (λ d. d.0 < length grid.now.cells) }
+    ensures none { IfNone result ((d : ACell) → ¬ (IsBeside grid.now side cell d)) }
+{
+    let _limits = grid.cells();
+    match side {
+        Side::Up if place.row > 0 => Some(Cell(cell.0 - grid.width())),
+        Side::Left if place.column > 0 => Some(Cell(cell.0 - 1)),
+        Side::Right if place.column + 1 < grid.width() => Some(Cell(cell.0 + 1)),
+        Side::Down if place.row + 1 < grid.height() => Some(Cell(cell.0 + grid.width())),
+        _ => None,
     }
 }

@@ -11,7 +11,7 @@ pub loop-hop-init : goal.loop-hop-init
 loop-hop-init g c = record {
   on = c.requires.on;
   in_time = c.requires.time;
-  reads = λ a agrees. reads_nothing c.args.task.now.grid.now c.args.task.now.request a c.args.arrival c.new-cells.result.items c.new-cells.ensures.items;
+  reads = λ a agrees. reads_nothing c.args.task.now.grid.now c.args.task.now.request a c.args.arrival c.in_ok-cells.cells.items c.in_ok-cells.ensures.items;
 }
 
 pub loop-hop-preserved : goal.loop-hop-preserved

@@ -4,7 +4,7 @@ use Rattle.bucket_queue.specs.Queue.{Queue}
 use Rattle.sipp_search.specs.declared.states.Spot.{Spot}
 use Rattle.sipp_search.specs.declared.states.State.{State}
 use Rattle.sipp_search.specs.Marks.{spots_of, final_count, offered_mark}
-use Rattle.sipp_search.specs.Arena.{IsArena}
+use Rattle.sipp_search.specs.Arena.{IsArena, AreWhole}
 use Rattle.sipp_search.proofs.Lists.{stands_map}
 use Rattle.sipp_search.proofs.Marking.{count-unseen, offered_improves, spots-set}
 use Rattle.sipp_search.proofs.Blocks.{spots_right}
@@ -55,7 +55,8 @@ returns-in_default-place_at-clause-way g c = λ a x agrees.
     let block = rw c.in-Some-2.is at c.in_ok-first.ensures.block in
     idle_way terrain q horizon a c.block_of-2.new.arena.states.items x
     (grown_unseen _ _ (grown_unseen _ _ (nothing_unseen c.args.arena.now.states.items c.requires.none) c.in_ok-block_of.ensures.grown) c.in_ok-first.ensures.grown)
-    (start_taken terrain q horizon a c.block_of-2.new.arena.states.items known c.in-Some-2.first agrees block (c.in_default-place_at.ensures.none terrain q.goal horizon known block)))
+    (start_taken terrain q horizon a c.block_of-2.new.arena.states.items known c.block_of-2.new.arena.queue.floor c.in-Some-2.first
+    (c.in_ok-first.ensures.floor ∙ (c.in_ok-block_of.ensures.floor ∙ c.requires.floor)) agrees block (rw c.in-Some-2.is at c.in_ok-first.ensures.times) (c.in_default-place_at.ensures.none terrain q.goal horizon known block)))
 
 pub offer-requires-clause-known : goal.offer-requires-clause-known
 offer-requires-clause-known g c =
@@ -87,6 +88,10 @@ returns-clause-sound g c =
       count = sound.count;
       arranged = subst (λ (xs : List Spot). IsArena c.args.task.now.grid.now c.args.task.now.request.goal c.args.task.now.horizon (g.V.CalendarView.known c.block_of-2.new.view) xs c.block_of-2.new.arena.firsts)
           (sym spots) sound.arranged;
+      whole = (let floor : c.offer.new.queue.floor ≡ c.block_of-2.new.arena.queue.floor = ap (λ (z : Queue). z.floor) c.in_ok-offer.ensures.queue in
+          subst (λ (n : ℕ). AreWhole c.args.task.now.grid.now c.args.task.now.request.goal c.args.task.now.horizon (g.V.CalendarView.known c.block_of-2.new.view) n (spots_of c.offer.new.states.items) c.block_of-2.new.arena.firsts) (sym floor)
+          (subst (λ (xs : List Spot). AreWhole c.args.task.now.grid.now c.args.task.now.request.goal c.args.task.now.horizon (g.V.CalendarView.known c.block_of-2.new.view) c.block_of-2.new.arena.queue.floor xs c.block_of-2.new.arena.firsts)
+          (sym spots) sound.whole));
       aimed = sound.aimed;
       goal_is = sound.goal_is;
       room_is = sound.room_is;

@@ -1,4 +1,5 @@
 use Rattle.std.proofs.Common.{arith, subst, sym, ◌∙◌, ℕ}
+use Rattle.std.proofs.lemmas.Option.{slice_get_within}
 use Rattle.sipp_search.specs.declared.states.State.{State}
 use Rattle.sipp_search.specs.Marks.{final}
 use Rattle.sipp_search.specs.Progress.{IsUnderWay}
@@ -7,13 +8,19 @@ use Rattle.sipp_search.proofs.Marking.{improves-trans}
 use Rattle.sipp_search.proofs.Moving.{kept_twice, agrees_before, loads_more, led_more, all_led}
 use Rattle.sipp_search.proofs.expand.expand.Goals as goal
 
+pub place_of-place-requires : goal.place_of-place-requires
+place_of-place-requires g c =
+    let at = stands_map (λ (z : State). z.spot) c.args.arena.now.states.items c.args.taken.id (final c.args.taken.spot c.args.taken.arrival) c.requires.taken.stands in
+    let there = c.requires.sound.arranged.placed c.args.taken.id c.args.taken.spot at in
+    omega (arith, slice_get_within c.args.arena.now.firsts c.args.taken.spot.cell.0 _ there.1, c.requires.sound.count, c.requires.ready.size_is)
+
 pub move_to-requires-clause-placed : goal.move_to-requires-clause-placed
 move_to-requires-clause-placed g c =
     (c.args.taken.id, c.loop-rank.invariant.spots c.args.taken.id c.args.taken.spot (stands_map (λ (z : State). z.spot) c.args.arena.now.states.items c.args.taken.id (final c.args.taken.spot c.args.taken.arrival) c.requires.taken.stands))
 
 pub returns-in_err-move_to-clause-loads : goal.returns-in_err-move_to-clause-loads
 returns-in_err-move_to-clause-loads g c =
-    loads_more c.args.task.now.grid.now c.args.taken.spot.cell c.side_at.result (g.V.CalendarView.known c.args.view.now) (g.V.CalendarView.known c.loop-rank.view) (g.V.CalendarView.known c.move_to.new.view)
+    loads_more c.args.task.now.grid.now c.args.taken.spot.cell c.side_at-side.result (g.V.CalendarView.known c.args.view.now) (g.V.CalendarView.known c.loop-rank.view) (g.V.CalendarView.known c.move_to.new.view)
     c.loop-rank.invariant.loads c.in_err-move_to.ensures.loads
 
 pub loop-rank-preserved : goal.loop-rank-preserved
@@ -21,7 +28,7 @@ loop-rank-preserved g c = record {
   cells = c.in_ok-move_to.ensures.cells ∙ c.loop-rank.invariant.cells;
   went = g.met.V.CalendarView.goes_on _ _ _ c.loop-rank.invariant.went c.in_ok-move_to.ensures.went;
   kept = kept_twice _ _ _ c.loop-rank.invariant.kept c.in_ok-move_to.ensures.kept;
-  loads = loads_more c.args.task.now.grid.now c.args.taken.spot.cell c.side_at.result (g.V.CalendarView.known c.args.view.now) (g.V.CalendarView.known c.loop-rank.view) (g.V.CalendarView.known c.move_to.new.view)
+  loads = loads_more c.args.task.now.grid.now c.args.taken.spot.cell c.side_at-side.result (g.V.CalendarView.known c.args.view.now) (g.V.CalendarView.known c.loop-rank.view) (g.V.CalendarView.known c.move_to.new.view)
       c.loop-rank.invariant.loads c.in_ok-move_to.ensures.loads;
   sound = c.in_ok-move_to.ensures.sound;
   floor = c.in_ok-move_to.ensures.floor ∙ c.loop-rank.invariant.floor;
@@ -35,8 +42,8 @@ loop-rank-preserved g c = record {
       let step = c.in_ok-move_to.ensures.led a x agrees arrived
       (subst (λ (n : ℕ). IsUnderWay terrain q horizon a c.loop-rank.arena.states.items n x) (sym c.loop-rank.invariant.floor) before.0) in (
         subst (λ (n : ℕ). IsUnderWay terrain q horizon a c.move_to.new.arena.states.items n x) c.loop-rank.invariant.floor step.0,
-        led_more terrain q horizon a c.loop-rank.arena.states.items c.move_to.new.arena.states.items c.args.taken.spot c.args.taken.arrival c.loop-rank.rank c.side_at.result
-            c.in_ok-move_to.ensures.improves c.side_at.ensures before.1 step.1,
+        led_more terrain q horizon a c.loop-rank.arena.states.items c.move_to.new.arena.states.items c.args.taken.spot c.args.taken.arrival c.loop-rank.rank c.side_at-side.result
+            c.in_ok-move_to.ensures.improves c.side_at-side.ensures before.1 step.1,
       ));
 }
 

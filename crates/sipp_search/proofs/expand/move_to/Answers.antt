@@ -78,7 +78,10 @@ returns-clause-led g c = λ a x agrees arrived way.
     let source = source_of terrain q horizon a known c.args.from c.args.arrival c.args.side c.in-Some.to block.left c.requires.ready.bound of agrees arrived c.in-Some.ensures.beside block.distance in
     let grown = grown_way terrain q horizon a c.args.arena.now.states.items mid c.args.arena.now.queue.floor x c.in_ok-first.ensures.grown way in
     let led = c.in_ok-reach_into.ensures.led terrain q a x agrees source
-    (spots_right terrain q.goal horizon known (spots_of mid) c.block_of.new.arena.firsts q a refl blocks agrees) block c.requires.ready.bound
+    (spots_right terrain q.goal horizon known (spots_of mid) c.block_of.new.arena.firsts q a refl blocks agrees) block (rw c.in-Some-2.is at c.in_ok-first.ensures.times)
+    (λ left far.
+    let low : c.args.from.left ≤ left + 1 = low_key terrain q.goal c.requires.ready.bound c.args.side c.args.from.cell c.in-Some.to c.args.from.left left c.in-Some.ensures.beside of.distance far in
+    omega (arith, c.in_ok-first.ensures.floor, c.requires.taken)) c.requires.ready.bound
     (subst (λ (n : ℕ). IsUnderWay terrain q horizon a mid n x) (sym c.in_ok-first.ensures.floor) grown) in (
       subst (λ (n : ℕ). IsUnderWay terrain q horizon a c.reach_into.new.states.items n x) c.in_ok-first.ensures.floor led.0,
       led_only terrain q horizon a c.reach_into.new.states.items c.args.from c.args.arrival c.args.side c.in-Some.to c.in-Some.ensures.beside led.1,

@@ -1,4 +1,4 @@
-use Rattle.std.proofs.Common.{rules, arith, subst, sym, ap, ◌∙◌, refl, ◌≡◌, ◌<◌, ℕ, length, vec_len, Some, slice_get}
+use Rattle.std.proofs.Common.{rules, arith, inl, inr, subst, sym, ap, ◌∙◌, refl, ◌≡◌, ◌<◌, ℕ, length, vec_len, Some, slice_get}
 use Rattle.std.proofs.lemmas.Option.{slice_get_read, slice_get_within, same_Some}
 use Rattle.std.proofs.lemmas.List.{length-map}
 use Rattle.std.specs.Prelude.{List}
@@ -14,19 +14,34 @@ use Rattle.sipp_search.proofs.Marking.{improves-trans}
 use Rattle.sipp_search.proofs.Visits.{has_led, entered_more, spot_there, same_length}
 use Rattle.sipp_search.proofs.expand.reach_into.Goals as goal
 
-pub returns-then-index-to-clause-led : goal.returns-then-index-to-clause-led
-returns-then-index-to-clause-led g c = λ t q a x agrees source spots block bound way.
+pub returns-then-spot-to-clause-led : goal.returns-then-spot-to-clause-led
+returns-then-spot-to-clause-led g c = λ t q a x agrees source spots block times late bound way.
     (let both = c.loop-j.invariant.entered t q a x agrees source spots way in
     let len : vec_len c.args.states.now ≡ length c.args.states.now.items = search rules in
     let within : c.loop-j.j < length c.loop-j.states.items = omega (arith, same_length c.args.states.now.items c.loop-j.states.items c.loop-j.invariant.spots, c.loop-j-test.true, c.len-j-end.ensures) in
     let at : slice_get c.loop-j.states.items c.loop-j.j ≡ Some c.index.result.now = slice_get_read c.loop-j.states.items _ _ _ refl within c.index.ensures in (
       both.0,
       has_led t q c.args.horizon a c.args.states.now.items c.loop-j.states.items c.args.from c.args.arrival c.args.to c.args.first
-          (g.V.CalendarView.known c.args.view.now) c.loop-j.j bound agrees spots block c.loop-j.auto.j
-          (λ p at' cell.
+          (g.V.CalendarView.known c.args.view.now) c.args.queue.now.floor c.loop-j.j bound agrees spots block times late c.loop-j.auto.j
+          (λ p at'.
           let here = spot_there c.args.states.now.items c.loop-j.states.items c.loop-j.j c.index.result.now c.loop-j.invariant.spots at in
           let same : c.index.result.now.spot ≡ p = same_Some c.index.result.now.spot p (sym here ∙ at') in
-          c.if-index-to.true (ap (λ (z : Spot). z.cell.0) same ∙ ap (λ (z : Cell). z.0) cell)) both.1,
+          inl (λ cell. c.if-spot-to.true (ap (λ (z : Spot). z.cell.0) same ∙ ap (λ (z : Cell). z.0) cell))) both.1,
+    ))
+
+pub returns-then-spot-from-clause-led : goal.returns-then-spot-from-clause-led
+returns-then-spot-from-clause-led g c = λ t q a x agrees source spots block times late bound way.
+    (let both = c.loop-j.invariant.entered t q a x agrees source spots way in
+    let len : vec_len c.args.states.now ≡ length c.args.states.now.items = search rules in
+    let within : c.loop-j.j < length c.loop-j.states.items = omega (arith, same_length c.args.states.now.items c.loop-j.states.items c.loop-j.invariant.spots, c.loop-j-test.true, c.len-j-end.ensures) in
+    let at : slice_get c.loop-j.states.items c.loop-j.j ≡ Some c.index.result.now = slice_get_read c.loop-j.states.items _ _ _ refl within c.index.ensures in (
+      both.0,
+      has_led t q c.args.horizon a c.args.states.now.items c.loop-j.states.items c.args.from c.args.arrival c.args.to c.args.first
+          (g.V.CalendarView.known c.args.view.now) c.args.queue.now.floor c.loop-j.j bound agrees spots block times late c.loop-j.auto.j
+          (λ p at'.
+          let here = spot_there c.args.states.now.items c.loop-j.states.items c.loop-j.j c.index.result.now c.loop-j.invariant.spots at in
+          let same : c.index.result.now.spot ≡ p = same_Some c.index.result.now.spot p (sym here ∙ at') in
+          inr (omega (arith, c.if-spot-from.true, ap (λ (z : Spot). z.interval.from) same))) both.1,
     ))
 
 pub visit-requires-clause-low : goal.visit-requires-clause-low
@@ -34,7 +49,7 @@ visit-requires-clause-low g c = λ s at.
     (let within : c.loop-j.j < length c.loop-j.states.items = slice_get_within c.loop-j.states.items c.loop-j.j s at in
     let mine : slice_get c.loop-j.states.items c.loop-j.j ≡ Some c.index.result.now = slice_get_read c.loop-j.states.items _ _ _ refl within c.index.ensures in
     let same : c.index.result.now ≡ s = same_Some c.index.result.now s (sym mine ∙ at) in
-    let cell : s.spot.cell ≡ c.args.to = same_cells s.spot.cell c.args.to (sym (ap (λ (z : State). z.spot.cell.0) same) ∙ c.if-index-to.false) in
+    let cell : s.spot.cell ≡ c.args.to = same_cells s.spot.cell c.args.to (sym (ap (λ (z : State). z.spot.cell.0) same) ∙ c.if-spot-to.false) in
     let floor : c.loop-j.queue.floor ≡ c.args.queue.now.floor = ap (λ (z : Queue). z.floor) c.loop-j.invariant.queue in
     rw floor (c.requires.low c.loop-j.j s.spot (spot_there c.args.states.now.items c.loop-j.states.items c.loop-j.j s c.loop-j.invariant.spots at) cell))
 
@@ -48,7 +63,7 @@ loop-j-preserved g c = record {
       let len : vec_len c.args.states.now ≡ length c.args.states.now.items = search rules in
       let within : c.loop-j.j < length c.loop-j.states.items = omega (arith, same_length c.args.states.now.items c.loop-j.states.items c.loop-j.invariant.spots, c.loop-j-test.true, c.len-j-end.ensures) in
       let at : slice_get c.loop-j.states.items c.loop-j.j ≡ Some c.index.result.now = slice_get_read c.loop-j.states.items _ _ _ refl within c.index.ensures in
-      let cell : c.index.result.now.spot.cell ≡ c.args.to = same_cells c.index.result.now.spot.cell c.args.to c.if-index-to.false in
+      let cell : c.index.result.now.spot.cell ≡ c.args.to = same_cells c.index.result.now.spot.cell c.args.to c.if-spot-to.false in
       let floor : c.loop-j.queue.floor ≡ c.args.queue.now.floor = ap (λ (z : Queue). z.floor) c.loop-j.invariant.queue in
       let here : a c.args.from.cell.0 ≡ c.calendar-here.result.now = agrees c.args.from.cell.0 _ c.calendar-here.ensures in
       let there : a c.args.to.0 ≡ c.calendar-there.result.now = agrees c.args.to.0 _ c.calendar-there.ensures in
@@ -64,13 +79,13 @@ loop-j-preserved g c = record {
 }
 
 pub returns-clause-led : goal.returns-clause-led
-returns-clause-led g c = λ t q a x agrees source spots block bound way.
+returns-clause-led g c = λ t q a x agrees source spots block times late bound way.
     (let both = c.loop-j.invariant.entered t q a x agrees source spots way in
     let len : vec_len c.args.states.now ≡ length c.args.states.now.items = search rules in (
       both.0,
       has_led t q c.args.horizon a c.args.states.now.items c.loop-j.states.items c.args.from c.args.arrival c.args.to c.args.first
-          (g.V.CalendarView.known c.args.view.now) c.loop-j.j bound agrees spots block c.loop-j.auto.j
-          (λ p at cell.
+          (g.V.CalendarView.known c.args.view.now) c.args.queue.now.floor c.loop-j.j bound agrees spots block times late c.loop-j.auto.j
+          (λ p at.
           let within : c.loop-j.j < length (spots_of c.args.states.now.items) = slice_get_within (spots_of c.args.states.now.items) c.loop-j.j p at in
-          omega (arith, length-map c.args.states.now.items (λ (z : State). z.spot), c.loop-j-test.false, c.len-j-end.ensures)) both.1,
+          absurd (omega (arith, length-map c.args.states.now.items (λ (z : State). z.spot), c.loop-j-test.false, c.len-j-end.ensures))) both.1,
     ))

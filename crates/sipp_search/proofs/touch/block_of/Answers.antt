@@ -4,7 +4,7 @@ use Rattle.bucket_queue.specs.Queue.{Queue}
 use Rattle.static_distance.specs.declared.distances.Distances.{Distances}
 use Rattle.static_distance.specs.Aim.{room, IsAimed}
 use Rattle.sipp_search.specs.Marks.{spots_of}
-use Rattle.sipp_search.specs.Arena.{IsBlock, states_for}
+use Rattle.sipp_search.specs.Arena.{IsBlock, HasTimes, states_for}
 use Rattle.sipp_search.proofs.Blocks.{states_unseen, suc_of}
 use Rattle.sipp_search.proofs.Serving.{serves_of, sound_counted, grown_by_none, distance_told, no_way_told}
 use Rattle.sipp_search.proofs.touch.block_of.Goals as goal
@@ -23,6 +23,14 @@ returns-then-touched-ne0-clause-block g c =
     let first : touched.0 ≡ c.get-touched.result - 1 = omega arith in
     subst (λ (n : ℕ). IsBlock c.args.task.now.grid.now c.args.task.now.request.goal c.args.task.now.horizon (g.V.CalendarView.known c.args.view.now) (spots_of c.args.arena.now.states.items) c.args.cell n)
     first (c.requires.sound.arranged.block c.args.cell touched.0 touched.1)
+
+pub returns-then-touched-ne0-clause-times : goal.returns-then-touched-ne0-clause-times
+returns-then-touched-ne0-clause-times g c =
+    let touched = suc_of c.args.arena.now.firsts c.args.cell.0 c.get-touched.result c.get-touched.ensures c.if-touched-ne0.true in
+    let same : suc touched.0 ≡ c.get-touched.result = same_Some (suc touched.0) c.get-touched.result (sym touched.1 ∙ c.get-touched.ensures) in
+    let first : touched.0 ≡ c.get-touched.result - 1 = omega arith in
+    subst (λ (n : ℕ). HasTimes c.args.task.now.grid.now c.args.task.now.request.goal c.args.task.now.horizon (g.V.CalendarView.known c.args.view.now) c.args.arena.now.queue.floor (spots_of c.args.arena.now.states.items) c.args.cell n)
+    first (c.requires.sound.whole c.args.cell touched.0 touched.1)
 
 pub returns-in_default-clause-sound : goal.returns-in_default-clause-sound
 returns-in_default-clause-sound g c =
@@ -47,6 +55,7 @@ returns-clause-sound g c =
       count = touched.count ∙ (c.requires.sound.count ∙ sym touched.cells);
       arranged = touched.arena c.args.task.now.grid.now c.args.task.now.request.goal c.requires.sound.arranged
           distance;
+      whole = touched.whole c.args.task.now.grid.now c.args.task.now.request.goal (c.requires.ready.bound.once c.args.cell) c.requires.sound.arranged c.requires.sound.whole distance;
       aimed = subst (λ (d : Distances). IsAimed c.args.task.now.grid.now d) (sym touched.distances) c.in_ok-left.ensures.aimed;
       goal_is = ap (λ (d : Distances). d.goal) touched.distances ∙ (c.to_goal.ensures.goal ∙ c.requires.sound.goal_is);
       room_is = ap room touched.distances ∙ (c.to_goal.ensures.room ∙ c.requires.sound.room_is);
@@ -63,3 +72,10 @@ returns-clause-block g c =
     c.requires.sound.goal_is c.in_ok-left.ensures.distance c.in-Some.is in
     (c.in_ok-first.ensures.arena c.args.task.now.grid.now c.args.task.now.request.goal c.requires.sound.arranged
     distance).block c.args.cell c.in_ok-first.first c.in_ok-first.ensures.touched
+
+pub returns-clause-times : goal.returns-clause-times
+returns-clause-times g c =
+    let distance = distance_told c.args.task.now.grid.now c.args.arena.now.distances.goal c.args.task.now.request.goal c.args.cell c.in_ok-left.field-0 c.in-Some.left
+    c.requires.sound.goal_is c.in_ok-left.ensures.distance c.in-Some.is in
+    (c.in_ok-first.ensures.whole c.args.task.now.grid.now c.args.task.now.request.goal (c.requires.ready.bound.once c.args.cell) c.requires.sound.arranged c.requires.sound.whole distance)
+    c.args.cell c.in_ok-first.first c.in_ok-first.ensures.touched
