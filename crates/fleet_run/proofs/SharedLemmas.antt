@@ -44,8 +44,7 @@ module _ (cells : ℕ) (lanes : List Lane) (answers : List Answer) (are : AreLan
 
   pub right : AnswerLanes lanes answers
   right =
-      let few = are.few_orders in
-      (
+      let few = are.few_orders in (
         are.numbered,
         omega (arith, length_permutation run.by_number answers run.same, run.whole),
         All-permutation (λ a. order_of a < length (all_orders lanes)) run.by_number answers run.same (λ k d h. order_at k d h),

@@ -130,8 +130,7 @@ lent_past lent k past = omega (arith, length-map lent (λ (b : Bor Answer). b.no
 -- answers that are printed are to orders of the same lanes
 pub printed_lanes : (lanes : List Lane) (answers : List Answer) (printed lent : List (Bor Answer)) → AnswerLanes lanes answers → ArePrinted answers (map (λ b. b.now) printed) → lent ≡ printed → AnswerLanes lanes (map (λ b. b.now) lent)
 printed_lanes lanes answers printed lent right in_order lends =
-    subst (λ l. AnswerLanes lanes (map (λ (b : Bor Answer). b.now) l)) (sym lends)
-    (
+    subst (λ l. AnswerLanes lanes (map (λ (b : Bor Answer). b.now) l)) (sym lends) (
       right.0,
       omega (arith, right.1, length_permutation answers (map (λ (b : Bor Answer). b.now) printed) in_order.same),
       All-permutation (λ a. order_of a < length (all_orders lanes)) answers (map (λ (b : Bor Answer). b.now) printed) in_order.same right.2,

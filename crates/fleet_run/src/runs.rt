@@ -17,12 +17,7 @@ use std::alloc::Global;
 use std::thread::Threads;
 
 // The journal of a run over the lanes by one worker.
-fn journal_alone(
-    alloc: Global,
-    grid: Grid,
-    horizon: u32,
-    lanes: Vec<Lane>,
-) -> Result<Job, Memory>
+fn journal_alone(alloc: Global, grid: Grid, horizon: u32, lanes: Vec<Lane>) -> Result<Job, Memory>
     requires horizon { (1 ≤ horizon) × (horizon ≤ 8000) }
     requires lanes { AreLanes (length grid.cells) lanes.items }
     ensures text { IfOk result (λ job. (text : List ℕ) → Says job text → IsRunText grid horizon lanes.items 1 text (joined_in job)) }
@@ -50,12 +45,7 @@ pub fn count_all(answers: &[&Answer]) -> Totals
 }
 
 // The last line of the journal of a run over the lanes by one worker.
-fn last_line_alone(
-    alloc: Global,
-    grid: Grid,
-    horizon: u32,
-    lanes: &[Lane],
-) -> Result<Job, Memory>
+fn last_line_alone(alloc: Global, grid: Grid, horizon: u32, lanes: &[Lane]) -> Result<Job, Memory>
     requires horizon { (1 ≤ horizon) × (horizon ≤ 8000) }
     requires lanes { AreLanes (length grid.cells) lanes.now }
     ensures text { IfOk result (λ job. (text : List ℕ) → Says job text → IsLastLine grid horizon lanes.now 1 text (joined_in job)) }

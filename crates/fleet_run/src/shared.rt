@@ -83,8 +83,9 @@ pub fn journal_shared<R: Threads + Sync, G: Gate>(
     ensures text { IfOk result (λ job. (text : List ℕ) → Says job text → IsRunText grid horizon lanes.items workers text (joined_in job)) }
     ensures right { IfOk result CanBeWritten }
 {
-    let SharedRun { answers, joined } =
-        run_shared(rt, alloc, &grid, horizon, workers, &lanes, gate)?;
+    let SharedRun { answers, joined } = run_shared(
+        rt, alloc, &grid, horizon, workers, &lanes, gate,
+    )?;
     Ok(Job::Shared {
         grid,
         lanes,
@@ -109,8 +110,7 @@ pub fn last_line_shared<R: Threads + Sync, G: Gate>(
     ensures text { IfOk result (λ job. (text : List ℕ) → Says job text → IsLastLine grid.now horizon lanes.now workers text (joined_in job)) }
     ensures right { IfOk result CanBeWritten }
 {
-    let SharedRun { answers, joined } =
-        run_shared(rt, alloc, grid, horizon, workers, lanes, gate)?;
+    let SharedRun { answers, joined } = run_shared(rt, alloc, grid, horizon, workers, lanes, gate)?;
     let totals = count_all(&print_order(alloc, &answers)?);
     Ok(Job::LastLine {
         totals,
