@@ -22,7 +22,7 @@ const fn wish(start: u32, goal: u32, depart: u32) -> Request
 fn is_left_with(lanes: &[Lane], left: &Left, order: u32) -> bool {
     match lanes.get(left.lane as usize) {
         Some(lane) => left.from <= order
-            && order.saturating_sub(lane.first) < lane.orders.as_slice().len() as u32,
+            && (order.saturating_sub(lane.first) as usize) < lane.orders.as_slice().len(),
         None => false,
     }
 }
