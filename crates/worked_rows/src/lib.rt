@@ -1,9 +1,9 @@
 // The worked rows: whole calls of the program with the texts and the statuses that they must give.
 //
 // They are tests, in a crate of their own above all others, so that no large crate is proved twice for its tests.
-// `calling` runs the top call in memory, with threads and a gate; `workers` has the rows of several workers, and `pool`
-// runs workers over a shared book without the program; `layers` is a yardstick of the search, from the definitions alone,
-// and `searches` compares the two; each other module is a group of rows.
+// `calling` runs the top call in memory, with threads and a gate; `workers` has the rows of several workers, `pool`
+// runs workers over a shared book without the program, and `tail` finishes what they left; `layers` is a yardstick of the
+// search, from the definitions alone, and `searches` compares the two; each other module is a group of rows.
 #![tactic(auto)]
 
 mod calling;
@@ -23,6 +23,8 @@ mod pool;
 mod routes;
 #[cfg(test)]
 mod searches;
+#[cfg(test)]
+mod tail;
 #[cfg(test)]
 mod workers;
 

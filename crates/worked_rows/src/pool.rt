@@ -28,7 +28,7 @@ fn is_left_with(lanes: &[Lane], left: &Left, order: u32) -> bool {
 }
 
 // How many answers the order has, and how many of the left lanes have it.
-fn count_for(lanes: &[Lane], answers: &[Answer], left: &[Left], order: u32) -> usize {
+pub fn count_for(lanes: &[Lane], answers: &[Answer], left: &[Left], order: u32) -> usize {
     let answered = answers
         .iter()
         .filter(|answer| answer.order() == order)
