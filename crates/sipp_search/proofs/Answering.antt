@@ -27,6 +27,7 @@ use Rattle.sipp_search.specs.Marks.{spots_of, final, one_if_final, final_count}
 use Rattle.sipp_search.specs.Answer.{IsSettled, IsDue, IsTable, IsRoute, IsNoRoute, IsBestWalk, IsAsked, IsNeeded}
 use Rattle.sipp_search.specs.Progress.{IsBound, IsWithin, HasFinal}
 use Rattle.sipp_search.specs.Running.{IsOver, EndsAt, Ends, IsLoadedFor, LoadsFor, LoadsInAll}
+use Rattle.sipp_search.specs.Ties.{IsFirstArrival}
 use Rattle.sipp_search.specs.Tabled.{settled_of, entry_by, entry_of, table_from}
 use Rattle.sipp_search.proofs.Lists.{stands_map}
 use Rattle.sipp_search.proofs.Moves.{IsReached, reached_open}
@@ -255,6 +256,29 @@ loads_needed g q states table first last table_is loads n is = elim (loads n is)
   | inr now ↦ elim now [ inl asked ↦ inr (needed_first g q table n asked) | inr for ↦ inr (needed g q states table n table_is for) ]
 ]
 
--- the route without its table
-pub best_walk : (g : Terrain) (horizon : ℕ) (a : Assignment) (q : Request) (w : TimedWalk) (table : List Settled) → IsRoute g horizon a q w table → IsBestWalk g horizon a q w
-best_walk g horizon a q w table route = record { canonical = route.canonical; walk_of = route.walk_of; free = route.free; least = route.least }
+-- the walk that is read back from the first arrival is the best one
+pub best_walk : (g : Terrain) (horizon : ℕ) (a : Assignment) (q : Request) (t : ℕ) (cells : List Cell) (w : TimedWalk) → t ≤ horizon → IsFirstArrival g q a t
+    → ReadsBack g (traffic_by a) q q.goal t cells → w ≡ record { depart = q.depart; cells = cells; stay = q.stay } → IsBestWalk g horizon a q w
+best_walk g horizon a q t cells w in_time first reads walk_is = subst (λ (v : TimedWalk). IsBestWalk g horizon a q v) (sym walk_is) best
+  where
+    walk : TimedWalk
+    walk = record { depart = q.depart; cells = cells; stay = q.stay }
+
+    best : IsBestWalk g horizon a q walk
+    best =
+        let len = reads_length g (traffic_by a) q reads in
+        let time : t ≡ arrival walk = omega (arith, len.0, len.1) in
+        let by : ReachesBy g q (traffic_by a) q.goal t (walk_on g (traffic_by a) q cells) = reads_walk g (traffic_by a) q reads first.arrives.reachable in
+        record {
+          canonical = record {
+            departs = refl;
+            stays = refl;
+            in_time = omega arith;
+            ends = subst (λ (n : ℕ). IsArrival g (traffic_by a) q n) time first.arrives;
+            least = λ s other. (let le : t ≤ s = first.least s other in omega arith);
+            reads = subst (λ (n : ℕ). ReadsBack g (traffic_by a) q q.goal n cells) time reads;
+          };
+          walk_of = walk_of_arrival g q (traffic_by a) t (walk_on g (traffic_by a) q cells) by first.arrives.may_end horizon in_time;
+          free = free_of_arrival g q (traffic_by a) t (walk_on g (traffic_by a) q cells) by first.arrives.may_end;
+          least = λ v of free. (let le : t ≤ arrival v = first.least (arrival v) (arrival_from_walk g horizon q (traffic_by a) v of free) in omega arith);
+        }

@@ -11,7 +11,7 @@ use Rattle.fleet_base.specs.declared.request.Request.{Request}
 use Rattle.fleet_base.specs.Terrain.{Terrain, IsBeside}
 use Rattle.fleet_base.specs.Traffic.{Traffic}
 use Rattle.fleet_base.specs.Reach.{begin, step}
-use Rattle.fleet_base.specs.Canonical.{CanPrecede, IsUntaken, IsEarliest, ReadsBack, whole, hop}
+use Rattle.fleet_base.specs.Canonical.{CanPrecede, IsUntaken, IsEarliest, IsFirstBefore, ReadsBack, whole, hop}
 use Rattle.fleet_base.proofs.ReachLemmas.{walk_from_steps, steps_from_walk}
 use Rattle.fleet_base.proofs.CanonicalLemmas.{step_back}
 use Rattle.calendars.specs.Records.{covers, is_exchange}
@@ -22,9 +22,9 @@ use Rattle.sipp_search.specs.declared.states.Spot.{Spot}
 use Rattle.sipp_search.specs.declared.states.State.{State}
 use Rattle.sipp_search.specs.declared.states.Arena.{Arena}
 use Rattle.sipp_search.specs.Marks.{spots_of, final}
-use Rattle.sipp_search.specs.Progress.{IsBound, IsWithin, HasFinal}
+use Rattle.sipp_search.specs.Progress.{IsBound, IsWithin, IsArrived, HasFinal}
 use Rattle.sipp_search.specs.Running.{IsSound, IsOver}
-use Rattle.sipp_search.specs.Back.{IsOn, IsHopFrom, IsHop, ReadsOn}
+use Rattle.sipp_search.specs.Back.{IsOn, IsHopFrom, ReadsOn}
 use Rattle.sipp_search.proofs.Lists.{stands_map, map_stands}
 use Rattle.sipp_search.proofs.Moves.{IsReached, reached_free, reached_open, wait_until, beside_differs}
 use Rattle.sipp_search.proofs.Moving.{some_of}
@@ -74,6 +74,58 @@ module _ (g : Terrain) (q : Request) (horizon : ℕ) (known : ℕ → Option (Li
             ]
       ]
 
+-- How cells are reached.
+module _ (g : Terrain) (q : Request) (a : Assignment) where
+  pub back_beside : (side : Side) (c n : Cell) → IsBeside g side c n → (other : Side) × IsBeside g other n c
+  back_beside side c n beside = elim (step_back g side c n beside) [
+    | inl same ↦ absurd (beside_differs g side c n beside same)
+    | inr found ↦ found
+  ]
+
+  -- a state is entered by a move, unless it is the start at the departure
+  pub record EnteredBy (c : Cell) (t : ℕ) : Type 0 where
+    pub side : Side
+    pub from : Cell
+    pub before : ℕ
+    pub time_is : t ≡ before + 1
+    pub beside : IsBeside g side c from
+    pub precedes : CanPrecede g (traffic_by a) q from c before
+
+  pub last_step : {c : Cell} {t : ℕ} → IsReached g q a c t → ((u : ℕ) → t ≡ u + 1 → IsReached g q a c u → ⊥) → ((c ≡ q.start) × (t ≡ q.depart)) ⊎ EnteredBy c t
+  last_step (begin opened untaken) not_before = inl (refl, refl)
+  last_step (step {c = n} {d = c} {t = u} before moves opened clear) not_before = elim moves [
+    | inl same ↦ absurd (not_before u refl (subst (λ (z : Cell). IsReached g q a z u) (sym same) before))
+    | inr beside ↦
+        let back = back_beside beside.0 n c beside.1 in
+        inr (record { side = back.0; from = n; before = u; time_is = refl; beside = back.1; precedes = record { reachable = walk_from_steps g q (traffic_by a) before; clear = clear } })
+  ]
+
+  -- what is known of a state tells since when its cell is reached
+  pub earliest_of : (horizon : ℕ) (c : Cell) (u r : ℕ) (p : Spot) → IsSafeInterval (a p.cell.0) horizon p.interval → p.cell ≡ c → IsIn u p.interval → r ≤ u
+      → IsArrived g q a p r → ((t : ℕ) → IsArrived g q a p t → r ≤ t) → IsEarliest g (traffic_by a) q c u r
+  earliest_of horizon c u r p safe' cell_is holds early arrived least =
+      let safe : IsSafeInterval (a c.0) horizon p.interval = subst (λ (z : Cell). IsSafeInterval (a z.0) horizon p.interval) cell_is safe' in
+      record {
+        before = early;
+        reachable = walk_from_steps g q (traffic_by a) (subst (λ (z : Cell). IsReached g q a z r) cell_is arrived.reached);
+        untaken = λ x low high. safe.free x (omega (arith, arrived.inside.0), omega (arith, holds.1));
+        earliest = λ v le reachable untaken.
+            (let reached : IsReached g q a c v = steps_from_walk g q (traffic_by a) c v reachable in
+            let there : IsReached g q a p.cell v = subst (λ (z : Cell). IsReached g q a z v) (sym cell_is) reached in
+            least v (record { reached = there; inside = (since safe v le untaken, omega (arith, holds.1)) }));
+      }
+    where
+      since : IsSafeInterval (a c.0) horizon p.interval → (v : ℕ) → v ≤ u → IsUntaken (traffic_by a) c v u → p.interval.from ≤ v
+      since safe v le untaken = elim (cases_lt v p.interval.from) [
+        | inr ok ↦ ok
+        | inl early ↦ elim safe.begins [
+          | inl start ↦ absurd (omega arith)
+          | inr edge ↦
+              let free : covers (a c.0) (p.interval.from - 1) ≡ false = untaken (p.interval.from - 1) (omega arith) (omega (arith, holds.0)) in
+              absurd (false≢true (sym free ∙ edge.1))
+        ]
+      ]
+
 -- Once the search is over, final states tell what is reachable.
 module _ (g : Terrain) (q : Request) (horizon : ℕ) (a : Assignment) (bound : IsBound g q.goal) (states : List State) (limit : ℕ) (over : IsOver g q horizon a states limit) where
   interval_safe : (i r : ℕ) (p : Spot) → slice_get states i ≡ Some (final p r) → IsSafeInterval (a p.cell.0) horizon p.interval
@@ -93,27 +145,7 @@ module _ (g : Terrain) (q : Request) (horizon : ℕ) (a : Assignment) (bound : I
   pub final_earliest : (c : Cell) (u : ℕ) (has : HasFinal states c u) → IsEarliest g (traffic_by a) q c u has.arrival
   final_earliest c u has =
       let well = over.final_well has.place has.arrival has.spot has.stands in
-      let safe : IsSafeInterval (a c.0) horizon has.spot.interval = subst (λ (z : Cell). IsSafeInterval (a z.0) horizon has.spot.interval) has.cell_is (interval_safe has.place has.arrival has.spot has.stands) in
-      record {
-        before = has.early;
-        reachable = walk_from_steps g q (traffic_by a) (subst (λ (z : Cell). IsReached g q a z has.arrival) has.cell_is well.arrived.reached);
-        untaken = λ x low high. safe.free x (omega (arith, well.arrived.inside.0), omega (arith, has.holds.1));
-        earliest = λ v le reachable untaken.
-            (let reached : IsReached g q a c v = steps_from_walk g q (traffic_by a) c v reachable in
-            let there : IsReached g q a has.spot.cell v = subst (λ (z : Cell). IsReached g q a z v) (sym has.cell_is) reached in
-            well.least v (record { reached = there; inside = (since safe v le untaken, omega (arith, has.holds.1)) }));
-      }
-    where
-      since : IsSafeInterval (a c.0) horizon has.spot.interval → (v : ℕ) → v ≤ u → IsUntaken (traffic_by a) c v u → has.spot.interval.from ≤ v
-      since safe v le untaken = elim (cases_lt v has.spot.interval.from) [
-        | inr ok ↦ ok
-        | inl early ↦ elim safe.begins [
-          | inl start ↦ absurd (omega arith)
-          | inr edge ↦
-              let free : covers (a c.0) (has.spot.interval.from - 1) ≡ false = untaken (has.spot.interval.from - 1) (omega arith) (omega (arith, has.holds.0)) in
-              absurd (false≢true (sym free ∙ edge.1))
-        ]
-      ]
+      earliest_of g q a horizon c u has.arrival has.spot (interval_safe has.place has.arrival has.spot has.stands) has.cell_is has.holds has.early well.arrived well.least
 
   pub hop_found : (c n : Cell) (t u : ℕ) (side : Side) → IsOn states c t → t ≡ u + 1 → IsBeside g side c n → (has : HasFinal states n u) → is_exchange (a n.0) (a c.0) u ≡ false
       → IsHopFrom g q a states c t side n has.arrival
@@ -132,12 +164,6 @@ module _ (g : Terrain) (q : Request) (horizon : ℕ) (a : Assignment) (bound : I
     on = record { place = has.place; spot = has.spot; stands = has.stands; cell_is = has.cell_is };
   }
 
-  back_beside : (side : Side) (c n : Cell) → IsBeside g side c n → (other : Side) × IsBeside g other n c
-  back_beside side c n beside = elim (step_back g side c n beside) [
-    | inl same ↦ absurd (beside_differs g side c n beside same)
-    | inr found ↦ found
-  ]
-
   -- a cell that can precede has a final state
   pub hop_final : (c n : Cell) (t u : ℕ) (side : Side) → IsOn states c t → t ≡ u + 1 → IsBeside g side c n → CanPrecede g (traffic_by a) q n c u → HasFinal states n u
   hop_final c n t u side on time beside can =
@@ -145,30 +171,12 @@ module _ (g : Terrain) (q : Request) (horizon : ℕ) (a : Assignment) (bound : I
       let well = over.final_well on.place t on.spot on.stands in
       let distance : IsDistance g q.goal c on.spot.left =
       subst (λ (z : Cell). IsDistance g q.goal z on.spot.left) on.cell_is (over.spots.distance on.place on.spot (stands_map (λ (z : State). z.spot) states on.place (final on.spot t) on.stands)) in
-      let back = back_beside side c n beside in
+      let back = back_beside g q a side c n beside in
       let within : IsWithin g q.goal n (on.spot.left + 1) = bound.falls back.0 n c on.spot.left (reached_open g q a reached) back.1 distance in
       over.complete n u (on.spot.left + 1) reached within (omega (arith, well.before))
 
-  -- a state is entered by a move, unless it is the start at the departure
-  pub record EnteredBy (c : Cell) (t : ℕ) : Type 0 where
-    pub side : Side
-    pub from : Cell
-    pub before : ℕ
-    pub time_is : t ≡ before + 1
-    pub beside : IsBeside g side c from
-    pub precedes : CanPrecede g (traffic_by a) q from c before
-
-  last_step : {c : Cell} {t : ℕ} → IsReached g q a c t → ((u : ℕ) → t ≡ u + 1 → IsReached g q a c u → ⊥) → ((c ≡ q.start) × (t ≡ q.depart)) ⊎ EnteredBy c t
-  last_step (begin opened untaken) not_before = inl (refl, refl)
-  last_step (step {c = n} {d = c} {t = u} before moves opened clear) not_before = elim moves [
-    | inl same ↦ absurd (not_before u refl (subst (λ (z : Cell). IsReached g q a z u) (sym same) before))
-    | inr beside ↦
-        let back = back_beside beside.0 n c beside.1 in
-        inr (record { side = back.0; from = n; before = u; time_is = refl; beside = back.1; precedes = record { reachable = walk_from_steps g q (traffic_by a) before; clear = clear } })
-  ]
-
-  pub entered : (c : Cell) (t : ℕ) → IsOn states c t → ((c ≡ q.start) × (t ≡ q.depart)) ⊎ EnteredBy c t
-  entered c t on = last_step (on_reached c t on) (λ u time reached. earlier u time reached)
+  pub entered : (c : Cell) (t : ℕ) → IsOn states c t → ((c ≡ q.start) × (t ≡ q.depart)) ⊎ EnteredBy g q a c t
+  entered c t on = last_step g q a (on_reached c t on) (λ u time reached. earlier u time reached)
     where
       earlier : (u : ℕ) → t ≡ u + 1 → IsReached g q a c u → ⊥
       earlier u time reached =
@@ -200,13 +208,12 @@ module _ (g : Terrain) (q : Request) (a : Assignment) (arrival : ℕ) where
   pub reads_nothing : (cells : List Cell) → cells ≡ [] → ReadsOn g q a arrival q.goal arrival (reverse cells)
   reads_nothing cells e front back = rw e (rw append-nil back)
 
-  pub reads_step : (c n : Cell) (t s k : ℕ) (rest : List Cell) (states : List State) → ReadsOn g q a arrival c t rest → IsHop g q a states c t n s → k ≡ t - 1 - s
-      → ReadsOn g q a arrival n s (replicate k n ++ c ∷ rest)
-  reads_step c n t s k rest states reads h k_is front back =
-      let u = h.before in
-      let count : k ≡ u - s = omega (arith, h.time_is) in
+  pub reads_step : (c n : Cell) (t u s k : ℕ) (rest : List Cell) → ReadsOn g q a arrival c t rest → t ≡ u + 1 → IsFirstBefore g (traffic_by a) q n c u
+      → IsEarliest g (traffic_by a) q n u s → k ≡ t - 1 - s → ReadsOn g q a arrival n s (replicate k n ++ c ∷ rest)
+  reads_step c n t u s k rest reads time_is first earliest k_is front back =
+      let count : k ≡ u - s = omega (arith, time_is) in
       let more : ReadsBack g (traffic_by a) q c t (front ++ replicate (u - s) n ++ c ∷ []) =
-      subst (λ (m : ℕ). ReadsBack g (traffic_by a) q c m (front ++ replicate (u - s) n ++ c ∷ [])) (sym h.time_is) (hop h.first h.earliest back) in
+      subst (λ (m : ℕ). ReadsBack g (traffic_by a) q c m (front ++ replicate (u - s) n ++ c ∷ [])) (sym time_is) (hop first earliest back) in
       let same : (front ++ replicate (u - s) n ++ c ∷ []) ++ rest ≡ front ++ (replicate k n ++ c ∷ rest) =
       rw count (append_assoc (front ++ replicate (u - s) n) (c ∷ []) rest ∙ append_assoc front (replicate (u - s) n) (c ∷ rest)) in
       rw same at (reads (front ++ replicate (u - s) n ++ c ∷ []) more)

@@ -60,7 +60,7 @@ module _ (g : Terrain) (q : Request) (horizon : ℕ) (a : Assignment) (bound : I
   ]
 
   -- who waits stays in the safe interval
-  final_waits : (c : Cell) (t : ℕ) → HasFinal states c t → t + 1 ≤ horizon → covers (a c.0) t ≡ false → covers (a c.0) (t + 1) ≡ false → HasFinal states c (t + 1)
+  pub final_waits : (c : Cell) (t : ℕ) → HasFinal states c t → t + 1 ≤ horizon → covers (a c.0) t ≡ false → covers (a c.0) (t + 1) ≡ false → HasFinal states c (t + 1)
   final_waits c t has in_time free free' =
       let safe : IsSafeInterval (a has.spot.cell.0) horizon has.spot.interval = spots.safe has.place has.spot (spot_at has.place (final has.spot has.arrival) has.stands) in
       let safe' : IsSafeInterval (a c.0) horizon has.spot.interval = subst (λ (z : Cell). IsSafeInterval (a z.0) horizon has.spot.interval) has.cell_is safe in

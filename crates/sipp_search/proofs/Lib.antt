@@ -12,3 +12,4 @@ pub mod Backward
 pub mod Beginning
 pub mod Answering
 pub mod Serving
+pub mod Paused

@@ -89,15 +89,15 @@ side_at-rank_of Down = refl
 pub same_side : (s r : Side) → rank_of s ≡ rank_of r → s ≡ r
 same_side s r e = sym (side_at-rank_of s) ∙ (ap side_at e ∙ side_at-rank_of r)
 
--- The sides before the n-th were led into.
-abbrev pub HasLedBefore : Terrain → Request → ℕ → Assignment → List State → Spot → ℕ → ℕ → Type 0
-HasLedBefore g q horizon a states from r n = (s : Side) → rank_of s < n → HasLedOn g q horizon a states from r s
+-- The last n sides were led into.
+abbrev pub HasLedLast : Terrain → Request → ℕ → Assignment → List State → Spot → ℕ → ℕ → Type 0
+HasLedLast g q horizon a states from r n = (s : Side) → 4 ≤ rank_of s + n → HasLedOn g q horizon a states from r s
 
-pub led_more : (g : Terrain) (q : Request) (horizon : ℕ) (a : Assignment) (old new : List State) (from : Spot) (r n : ℕ) (side : Side) → Improves old new → rank_of side ≡ n
-    → HasLedBefore g q horizon a old from r n → HasLedOn g q horizon a new from r side → HasLedBefore g q horizon a new from r (n + 1)
-led_more g q horizon a old new from r n side better rank before last s less = elim (cases_lt (rank_of s) n) [
-  | inl lower ↦ λ c beside. led_kept g q horizon a old new from r c better (before s lower c beside)
-  | inr past ↦ subst (λ (z : Side). HasLedOn g q horizon a new from r z) (same_side side s (omega arith)) last
+pub led_more : (g : Terrain) (q : Request) (horizon : ℕ) (a : Assignment) (old new : List State) (from : Spot) (r n : ℕ) (side : Side) → Improves old new → rank_of side + n + 1 ≡ 4
+    → HasLedLast g q horizon a old from r n → HasLedOn g q horizon a new from r side → HasLedLast g q horizon a new from r (n + 1)
+led_more g q horizon a old new from r n side better rank before last s far = elim (cases_lt (rank_of s + n) 4) [
+  | inr later ↦ λ c beside. led_kept g q horizon a old new from r c better (before s later c beside)
+  | inl first ↦ subst (λ (z : Side). HasLedOn g q horizon a new from r z) (same_side side s (omega arith)) last
 ]
 
 pub rank_low : (s : Side) → rank_of s < 4
@@ -108,9 +108,9 @@ rank_low Down = omega arith
 
 -- once all four sides were led into, the state leads on
 pub all_led : (g : Terrain) (q : Request) (horizon : ℕ) (a : Assignment) (states : List State) (cursor id y r : ℕ) (from : Spot)
-    → IsUnderWay g q horizon a states cursor id → slice_get states id ≡ Some (final from r) → HasLedBefore g q horizon a states from r 4 → IsUnderWay g q horizon a states cursor y
+    → IsUnderWay g q horizon a states cursor id → slice_get states id ≡ Some (final from r) → HasLedLast g q horizon a states from r 4 → IsUnderWay g q horizon a states cursor y
 all_led g q horizon a states cursor id y r from way at led =
-    leading_way g q horizon a states cursor id y r from way at (λ t k c since until move within in_time. led move.side (rank_low move.side) c move.beside t k since until move within in_time)
+    leading_way g q horizon a states cursor id y r from way at (λ t k c since until move within in_time. led move.side (omega arith) c move.beside t k since until move within in_time)
 
 -- What is known of a view, over two steps.
 pub kept_twice : (old mid new : ℕ → Option (List Record)) → KeepsKnown old mid → KeepsKnown mid new → KeepsKnown old new

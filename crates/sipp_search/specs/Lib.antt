@@ -8,3 +8,4 @@ pub mod Arena
 pub mod Running
 pub mod Back
 pub mod Tabled
+pub mod Ties

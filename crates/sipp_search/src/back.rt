@@ -19,9 +19,9 @@ use std::alloc::Global;
 
 // A cell, and the time from which the agent is there.
 #[derive(Clone, Copy)]
-struct Hop {
-    cell: Cell,
-    time: u32,
+pub struct Hop {
+    pub cell: Cell,
+    pub time: u32,
 }
 
 // The final arrival of a state, where its agent can wait there until that time.
@@ -131,7 +131,7 @@ fn before<V: CalendarView>(
 }
 
 // One cell more, and another one so many times.
-fn push_hop(cells: &mut Vec<Cell>, entered: Cell, from: Cell, waits: u32) -> Result<(), Memory>
+pub fn push_hop(cells: &mut Vec<Cell>, entered: Cell, from: Cell, waits: u32) -> Result<(), Memory>
     ensures { OnOk result (cells.new.items ≡ cells.old.items ++ entered ∷ [] ++ replicate waits from) }
 {
     cells.push(entered)?;

@@ -47,7 +47,7 @@ fn holds(interval: Interval, time: u32) -> bool
 }
 
 // The place of the state of the cell that holds the time, from the first state of the cell on.
-fn place_at(arena: &Arena, first: usize, cell: Cell, time: u32) -> Option<usize>
+pub fn place_at(arena: &Arena, first: usize, cell: Cell, time: u32) -> Option<usize>
     ensures some { IfSome result (λ j. (s : AState) × (slice_get arena.now.states.items j ≡ Some s) × (s.spot.cell ≡ cell) × IsIn time s.spot.interval) }
     ensures none { IfNone result ((g : Terrain) (goal : ACell) (horizon : ℕ) (known : ℕ → Option (List Record)) → IsBlock g goal horizon known (spots_of arena.now.states.items) cell first
         → (i : ℕ) (p : ASpot) → slice_get (spots_of arena.now.states.items) i ≡ Some p → p.cell ≡ cell → IsIn time p.interval → ⊥) }

@@ -275,8 +275,9 @@ pub fn expand<V: CalendarView>(
         → IsUnderWay task.now.grid.now task.now.request task.now.horizon a arena.new.states.items arena.old.queue.floor x) }
 {
     let place = place_of(task.grid, taken.spot.cell);
-    for rank in 0..4 {
-        let side = side_at(rank);
+    // Those whose moves are made last are taken first: that is how a walk is read back.
+    for last in 0..4 {
+        let side = side_at(3 - last);
         move_to(task, view, arena, taken.spot, taken.arrival, place, side)?;
     }
     Ok(())

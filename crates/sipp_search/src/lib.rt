@@ -2,7 +2,7 @@
 // Its one contract: `search` gives the canonical walk of a request, or says that no free walk exists, for every
 // assignment of calendars that has the loaded ones, and the table of exactly the states that it settled.
 // Modules: `searcher` and `sipp` (the search), `answer` (what it answers), `steps` (the counter of takes), `task` (what is asked), `states`
-// (the arena), `begin`, `touch`, `expand` and `run` (the search's parts), `back`, `table` and `reply` (the answer's).
+// (the arena), `begin`, `touch`, `expand` and `run` (the search's parts), `back`, `ties`, `table` and `reply` (the answer's).
 #![tactic(auto)]
 
 mod answer;
@@ -19,6 +19,7 @@ mod table;
 mod task;
 #[cfg(test)]
 mod tests;
+mod ties;
 mod touch;
 
 pub use answer::{Found, Settled, Table};

@@ -6,7 +6,9 @@ ghost use Rattle.safe_intervals.specs.declared.interval.Interval.{Interval};
 ghost use Rattle.safe_intervals.specs.Safe.{IsSafeInterval};
 ghost use Rattle.sipp_search.specs.declared.states.Spot.{Spot as ASpot};
 ghost use Rattle.sipp_search.specs.Marks.{keys_of, final, final_count};
-ghost use Rattle.sipp_search.specs.Answer.{AreListsOf, interval_count};
+ghost use Rattle.sipp_search.specs.Answer.{AreListsOf, IsFoundWalk, interval_count};
+ghost use Rattle.sipp_search.specs.Back.{IsOn};
+ghost use Rattle.sipp_search.specs.Ties.{IsPaused, IsFirstArrival};
 ghost use Rattle.sipp_search.specs.Progress.{IsUnderWay};
 ghost use Rattle.sipp_search.specs.Running.{IsReady, IsSound, Serves, KeepsKnown, SettlesNext, AreAbove, IsOver, Ends, MayEndIn, NeverEndsIn, LoadsFor, LoadsInAll};
 
@@ -128,6 +130,68 @@ fn run<V: CalendarView, L: Ledger>(
     Ok(found)
 }
 
+// Settles the queued states in the order of their keys up to the first one in which an agent may end. Gives its arrival.
+fn run_first<V: CalendarView, L: Ledger>(
+    task: &Task,
+    view: &mut V,
+    arena: &mut Arena,
+    steps: &mut Steps<L>,
+) -> Result<Option<u32>, Memory>
+    requires ready { IsReady task.now.grid.now task.now.request task.now.horizon (V.size view.old) }
+    requires sound { IsSound task.now.grid.now task.now.request task.now.horizon (V.known view.old) (V.size view.old) arena.old }
+    requires floor { arena.old.queue.floor ≤ task.now.horizon }
+    requires none_final { (i r : ℕ) (p : ASpot) → slice_get arena.old.states.items i ≢ Some (final p r) }
+    requires none_counted { final_count arena.old.states.items ≡ 0 }
+    requires way { (a : Assignment) (x : ℕ) → Agrees a (V.known view.old) → IsUnderWay task.now.grid.now task.now.request task.now.horizon a arena.old.states.items arena.old.queue.floor x }
+    ensures cells { V.size view.new ≡ V.size view.old }
+    ensures went { V.went view.old view.new }
+    ensures kept { KeepsKnown (V.known view.old) (V.known view.new) }
+    ensures takes { (lists : ℕ → List Interval) → AreListsOf (V.known view.new) task.now.horizon lists → steps.new ≤ steps.old + interval_count (V.known view.new) lists (V.size view.new) }
+    ensures rises { steps.old ≤ steps.new }
+    ensures counted { OnOk result (steps.new ≡ steps.old + final_count arena.new.states.items) }
+    ensures serves { Serves task.now.horizon (length task.now.grid.now.cells) arena.new }
+    ensures paused { IfOk result (λ o. IfSome o (λ t. IsPaused task.now.grid.now task.now.request task.now.horizon (V.known view.new) (V.size view.new) arena.new × (arena.new.queue.floor ≡ t))) }
+    ensures first { IfOk result (λ o. IfSome o (λ t. (a : Assignment) → Agrees a (V.known view.new) → IsFirstArrival task.now.grid.now task.now.request a t)) }
+    ensures none { IfOk result (λ o. IfNone o ((a : Assignment) → Agrees a (V.known view.new) → IsFoundWalk task.now.grid.now task.now.horizon a task.now.request None)) }
+{
+    while let Some(taken) = settle_next(arena, task.horizon) {
+        steps.tick();
+        expand(task, view, arena, taken)?;
+        if may_end(task, &*view, taken.spot) {
+            return Ok(Some(taken.arrival));
+        }
+    }
+    Ok(None)
+}
+
+// Settles the rest of the states whose key is the limit, which is the last key that was taken.
+pub fn settle_ties<V: CalendarView, L: Ledger>(
+    task: &Task,
+    view: &mut V,
+    arena: &mut Arena,
+    steps: &mut Steps<L>,
+    limit: u32,
+) -> Result<(), Memory>
+    requires ready { IsReady task.now.grid.now task.now.request task.now.horizon (V.size view.old) }
+    requires paused { IsPaused task.now.grid.now task.now.request task.now.horizon (V.known view.old) (V.size view.old) arena.old }
+    requires limit { arena.old.queue.floor ≡ limit }
+    ensures cells { V.size view.new ≡ V.size view.old }
+    ensures went { V.went view.old view.new }
+    ensures kept { KeepsKnown (V.known view.old) (V.known view.new) }
+    ensures takes { (lists : ℕ → List Interval) → AreListsOf (V.known view.new) task.now.horizon lists → steps.new + final_count arena.old.states.items ≤ steps.old + interval_count (V.known view.new) lists (V.size view.new) }
+    ensures rises { steps.old ≤ steps.new }
+    ensures serves { Serves task.now.horizon (length task.now.grid.now.cells) arena.new }
+    ensures sound { OnOk result (IsSound task.now.grid.now task.now.request task.now.horizon (V.known view.new) (V.size view.new) arena.new) }
+    ensures on { OnOk result (IsOn arena.new.states.items task.now.request.goal limit) }
+    ensures over { OnOk result ((a : Assignment) → Agrees a (V.known view.new) → IsOver task.now.grid.now task.now.request task.now.horizon a arena.new.states.items limit) }
+{
+    while let Some(taken) = settle_next(arena, limit) {
+        steps.tick();
+        expand(task, view, arena, taken)?;
+    }
+    Ok(())
+}
+
 // A whole search. It begins with nothing touched, whatever is in the arena.
 pub fn settle<V: CalendarView, L: Ledger>(
     task: &Task,
@@ -156,5 +220,33 @@ pub fn settle<V: CalendarView, L: Ledger>(
     prepare(task, arena)?;
     begin(task, view, arena)?;
     let found = run(task, view, arena, steps)?;
+    Ok(found)
+}
+
+// The same up to the first arrival at the goal.
+pub fn settle_first<V: CalendarView, L: Ledger>(
+    task: &Task,
+    view: &mut V,
+    arena: &mut Arena,
+    steps: &mut Steps<L>,
+) -> Result<Option<u32>, Memory>
+    requires ready { IsReady task.now.grid.now task.now.request task.now.horizon (V.size view.old) }
+    requires serves { Serves task.now.horizon (length task.now.grid.now.cells) arena.old }
+    requires start { task.now.request.start.0 < V.size view.old }
+    requires goal { task.now.request.goal.0 < V.size view.old }
+    ensures cells { V.size view.new ≡ V.size view.old }
+    ensures went { V.went view.old view.new }
+    ensures kept { KeepsKnown (V.known view.old) (V.known view.new) }
+    ensures takes { (lists : ℕ → List Interval) → AreListsOf (V.known view.new) task.now.horizon lists → steps.new ≤ steps.old + interval_count (V.known view.new) lists (V.size view.new) }
+    ensures rises { steps.old ≤ steps.new }
+    ensures counted { OnOk result (steps.new ≡ steps.old + final_count arena.new.states.items) }
+    ensures serves { Serves task.now.horizon (length task.now.grid.now.cells) arena.new }
+    ensures paused { IfOk result (λ o. IfSome o (λ t. IsPaused task.now.grid.now task.now.request task.now.horizon (V.known view.new) (V.size view.new) arena.new × (arena.new.queue.floor ≡ t))) }
+    ensures first { IfOk result (λ o. IfSome o (λ t. (a : Assignment) → Agrees a (V.known view.new) → IsFirstArrival task.now.grid.now task.now.request a t)) }
+    ensures none { IfOk result (λ o. IfNone o ((a : Assignment) → Agrees a (V.known view.new) → IsFoundWalk task.now.grid.now task.now.horizon a task.now.request None)) }
+{
+    prepare(task, arena)?;
+    begin(task, view, arena)?;
+    let found = run_first(task, view, arena, steps)?;
     Ok(found)
 }

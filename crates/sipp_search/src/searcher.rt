@@ -8,6 +8,7 @@ use crate::sipp::{find_in, search_in};
 use crate::states::{Arena, new_arena};
 use crate::steps::Steps;
 use crate::task::Task;
+use crate::ties::{Ties, new_ties};
 use calendars::CalendarView;
 use fleet_base::{Grid, Memory, Request, Walk};
 use std::alloc::Global;
@@ -21,6 +22,7 @@ pub struct Searcher {
     alloc: Global,
     horizon: u32,
     arena: Arena,
+    ties: Ties,
 }
 
 impl Model for Searcher {
@@ -32,8 +34,9 @@ impl Model for Searcher {
     ghost view = { λ s. record { cells = length s.arena.firsts; horizon = s.horizon } };
 
     ghost use Rattle.sipp_search.specs.Running.{Serves};
+    ghost use Rattle.sipp_search.specs.Ties.{HaveRoom};
 
-    ghost invariant = { λ s. (s.horizon ≤ 8000) × Serves s.horizon (length s.arena.firsts) s.arena };
+    ghost invariant = { λ s. (s.horizon ≤ 8000) × Serves s.horizon (length s.arena.firsts) s.arena × HaveRoom (length s.arena.firsts) s.ties };
 }
 
 impl Searcher {
@@ -46,6 +49,7 @@ impl Searcher {
             alloc,
             horizon,
             arena: new_arena(alloc, cells, horizon)?,
+            ties: new_ties(alloc, cells)?,
         })
     }
 
@@ -112,7 +116,14 @@ impl Searcher {
             request,
             horizon: self.horizon,
         };
-        find_in(self.alloc, &task, view, &mut self.arena, steps)
+        find_in(
+            self.alloc,
+            &task,
+            view,
+            &mut self.arena,
+            &mut self.ties,
+            steps,
+        )
     }
 }
 

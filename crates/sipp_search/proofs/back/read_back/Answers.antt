@@ -22,8 +22,8 @@ loop-hop-preserved g c =
       in_time = omega (arith, c.in-Some.ensures.earlier, c.loop-hop.invariant.in_time);
       reads = λ a agrees.
           (let hop = c.in-Some.ensures.hop a c.args.arrival agrees (c.requires.over a agrees) in
-          let more = reads_step c.args.task.now.grid.now c.args.task.now.request a c.args.arrival c.loop-hop.at c.in-Some.hop.cell c.loop-hop.time c.in-Some.hop.time _ (reverse c.loop-hop.cells.items)
-          c.args.arena.now.states.items (c.loop-hop.invariant.reads a agrees) hop refl in
+          let more = reads_step c.args.task.now.grid.now c.args.task.now.request a c.args.arrival c.loop-hop.at c.in-Some.hop.cell c.loop-hop.time hop.before c.in-Some.hop.time _ (reverse c.loop-hop.cells.items)
+          (c.loop-hop.invariant.reads a agrees) hop.time_is hop.first hop.earliest refl in
           subst (λ (xs : List Cell). ReadsOn c.args.task.now.grid.now c.args.task.now.request a c.args.arrival c.in-Some.hop.cell c.in-Some.hop.time xs)
           (hop_cells c.loop-hop.cells.items (c.loop-hop.cells.items ++ c.loop-hop.at ∷ []) c.push_hop.new.cells.items c.loop-hop.at c.in-Some.hop.cell _ refl c.in_ok-push_hop.ensures) more);
     }

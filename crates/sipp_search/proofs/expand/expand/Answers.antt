@@ -16,34 +16,34 @@ place_of-place-requires g c =
 
 pub move_to-requires-clause-placed : goal.move_to-requires-clause-placed
 move_to-requires-clause-placed g c =
-    (c.args.taken.id, c.loop-rank.invariant.spots c.args.taken.id c.args.taken.spot (stands_map (λ (z : State). z.spot) c.args.arena.now.states.items c.args.taken.id (final c.args.taken.spot c.args.taken.arrival) c.requires.taken.stands))
+    (c.args.taken.id, c.loop-last.invariant.spots c.args.taken.id c.args.taken.spot (stands_map (λ (z : State). z.spot) c.args.arena.now.states.items c.args.taken.id (final c.args.taken.spot c.args.taken.arrival) c.requires.taken.stands))
 
 pub returns-in_err-move_to-clause-loads : goal.returns-in_err-move_to-clause-loads
 returns-in_err-move_to-clause-loads g c =
-    loads_more c.args.task.now.grid.now c.args.taken.spot.cell c.side_at-side.result (g.V.CalendarView.known c.args.view.now) (g.V.CalendarView.known c.loop-rank.view) (g.V.CalendarView.known c.move_to.new.view)
-    c.loop-rank.invariant.loads c.in_err-move_to.ensures.loads
+    loads_more c.args.task.now.grid.now c.args.taken.spot.cell c.side_at-side.result (g.V.CalendarView.known c.args.view.now) (g.V.CalendarView.known c.loop-last.view) (g.V.CalendarView.known c.move_to.new.view)
+    c.loop-last.invariant.loads c.in_err-move_to.ensures.loads
 
-pub loop-rank-preserved : goal.loop-rank-preserved
-loop-rank-preserved g c = record {
-  cells = c.in_ok-move_to.ensures.cells ∙ c.loop-rank.invariant.cells;
-  went = g.met.V.CalendarView.goes_on _ _ _ c.loop-rank.invariant.went c.in_ok-move_to.ensures.went;
-  kept = kept_twice _ _ _ c.loop-rank.invariant.kept c.in_ok-move_to.ensures.kept;
-  loads = loads_more c.args.task.now.grid.now c.args.taken.spot.cell c.side_at-side.result (g.V.CalendarView.known c.args.view.now) (g.V.CalendarView.known c.loop-rank.view) (g.V.CalendarView.known c.move_to.new.view)
-      c.loop-rank.invariant.loads c.in_ok-move_to.ensures.loads;
+pub loop-last-preserved : goal.loop-last-preserved
+loop-last-preserved g c = record {
+  cells = c.in_ok-move_to.ensures.cells ∙ c.loop-last.invariant.cells;
+  went = g.met.V.CalendarView.goes_on _ _ _ c.loop-last.invariant.went c.in_ok-move_to.ensures.went;
+  kept = kept_twice _ _ _ c.loop-last.invariant.kept c.in_ok-move_to.ensures.kept;
+  loads = loads_more c.args.task.now.grid.now c.args.taken.spot.cell c.side_at-side.result (g.V.CalendarView.known c.args.view.now) (g.V.CalendarView.known c.loop-last.view) (g.V.CalendarView.known c.move_to.new.view)
+      c.loop-last.invariant.loads c.in_ok-move_to.ensures.loads;
   sound = c.in_ok-move_to.ensures.sound;
-  floor = c.in_ok-move_to.ensures.floor ∙ c.loop-rank.invariant.floor;
-  spots = λ i p at. c.in_ok-move_to.ensures.spots i p (c.loop-rank.invariant.spots i p at);
-  improves = improves-trans _ _ _ c.loop-rank.invariant.improves c.in_ok-move_to.ensures.improves;
+  floor = c.in_ok-move_to.ensures.floor ∙ c.loop-last.invariant.floor;
+  spots = λ i p at. c.in_ok-move_to.ensures.spots i p (c.loop-last.invariant.spots i p at);
+  improves = improves-trans _ _ _ c.loop-last.invariant.improves c.in_ok-move_to.ensures.improves;
   led = λ a x agrees arrived way.
       (let terrain = c.args.task.now.grid.now in
       let q = c.args.task.now.request in
       let horizon = c.args.task.now.horizon in
-      let before = c.loop-rank.invariant.led a x (agrees_before a _ _ c.in_ok-move_to.ensures.kept agrees) arrived way in
+      let before = c.loop-last.invariant.led a x (agrees_before a _ _ c.in_ok-move_to.ensures.kept agrees) arrived way in
       let step = c.in_ok-move_to.ensures.led a x agrees arrived
-      (subst (λ (n : ℕ). IsUnderWay terrain q horizon a c.loop-rank.arena.states.items n x) (sym c.loop-rank.invariant.floor) before.0) in (
-        subst (λ (n : ℕ). IsUnderWay terrain q horizon a c.move_to.new.arena.states.items n x) c.loop-rank.invariant.floor step.0,
-        led_more terrain q horizon a c.loop-rank.arena.states.items c.move_to.new.arena.states.items c.args.taken.spot c.args.taken.arrival c.loop-rank.rank c.side_at-side.result
-            c.in_ok-move_to.ensures.improves c.side_at-side.ensures before.1 step.1,
+      (subst (λ (n : ℕ). IsUnderWay terrain q horizon a c.loop-last.arena.states.items n x) (sym c.loop-last.invariant.floor) before.0) in (
+        subst (λ (n : ℕ). IsUnderWay terrain q horizon a c.move_to.new.arena.states.items n x) c.loop-last.invariant.floor step.0,
+        led_more terrain q horizon a c.loop-last.arena.states.items c.move_to.new.arena.states.items c.args.taken.spot c.args.taken.arrival c.loop-last.last c.side_at-side.result
+            c.in_ok-move_to.ensures.improves (omega (arith, c.side_at-side.ensures, c.loop-last-test.true)) before.1 step.1,
       ));
 }
 
@@ -53,7 +53,7 @@ returns-clause-led g c = λ a x agrees way.
     let q = c.args.task.now.request in
     let horizon = c.args.task.now.horizon in
     let arrived = (way.final_well c.args.taken.id c.args.taken.arrival c.args.taken.spot c.requires.taken.stands).arrived in
-    let both = c.loop-rank.invariant.led a c.args.taken.id agrees arrived way in
-    all_led terrain q horizon a c.loop-rank.arena.states.items c.args.arena.now.queue.floor c.args.taken.id x c.args.taken.arrival c.args.taken.spot both.0
-    (c.loop-rank.invariant.improves.no_less c.args.taken.id c.args.taken.arrival c.args.taken.spot c.requires.taken.stands)
-    (λ side low. both.1 side (omega (arith, c.loop-rank-test.false))))
+    let both = c.loop-last.invariant.led a c.args.taken.id agrees arrived way in
+    all_led terrain q horizon a c.loop-last.arena.states.items c.args.arena.now.queue.floor c.args.taken.id x c.args.taken.arrival c.args.taken.spot both.0
+    (c.loop-last.invariant.improves.no_less c.args.taken.id c.args.taken.arrival c.args.taken.spot c.requires.taken.stands)
+    (λ side low. both.1 side (omega (arith, c.loop-last-test.false))))

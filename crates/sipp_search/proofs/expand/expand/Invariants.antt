@@ -2,11 +2,11 @@ use Rattle.std.proofs.Common.{◌≡◌, ℕ}
 use Rattle.calendars.specs.Assignments.{Assignment, Agrees}
 use Rattle.sipp_search.specs.Progress.{IsArrived, IsUnderWay, Improves}
 use Rattle.sipp_search.specs.Running.{IsSound, KeepsKnown, KeepsSpots, LoadsAround}
-use Rattle.sipp_search.proofs.Moving.{HasLedBefore}
+use Rattle.sipp_search.proofs.Moving.{HasLedLast}
 use Rattle.sipp_search.proofs.expand.expand.Given as goal
 
-abbrev pub invariant-loop-rank : goal.invariant-loop-rank
-invariant-loop-rank g l = record {
+abbrev pub invariant-loop-last : goal.invariant-loop-last
+invariant-loop-last g l = record {
   cells : g.V.CalendarView.size l.view ≡ g.V.CalendarView.size l.initial.view;
   went : g.V.CalendarView.went l.initial.view l.view;
   kept : KeepsKnown (g.V.CalendarView.known l.initial.view) (g.V.CalendarView.known l.view);
@@ -18,5 +18,5 @@ invariant-loop-rank g l = record {
   led : (a : Assignment) (x : ℕ) → Agrees a (g.V.CalendarView.known l.view) → IsArrived l.task.grid.now l.task.request a l.taken.spot l.taken.arrival
       → IsUnderWay l.task.grid.now l.task.request l.task.horizon a l.initial.arena.states.items l.initial.arena.queue.floor x
       → IsUnderWay l.task.grid.now l.task.request l.task.horizon a l.arena.states.items l.initial.arena.queue.floor x
-      × HasLedBefore l.task.grid.now l.task.request l.task.horizon a l.arena.states.items l.taken.spot l.taken.arrival l.rank;
+      × HasLedLast l.task.grid.now l.task.request l.task.horizon a l.arena.states.items l.taken.spot l.taken.arrival l.last;
 }

@@ -1,0 +1,191 @@
+use Rattle.std.proofs.Common.{rules, arith, subst, sym, ap, ◌∙◌, refl, inl, inr, ◌≡◌, ◌≤◌, ◌<◌, ◌+◌, ◌-◌, ℕ, length, vec_len, Some, slice_get, true, false}
+use Rattle.std.proofs.lemmas.Bool.{cases_lt, false≢true}
+use Rattle.std.proofs.lemmas.Option.{slice_get_within, get_or_from_slice_get}
+use Rattle.fleet_base.specs.declared.grid.Cell.{Cell}
+use Rattle.fleet_base.specs.declared.grid.Side.{Side}
+use Rattle.fleet_base.specs.Terrain.{IsBeside}
+use Rattle.fleet_base.specs.Canonical.{rank_of, IsEarliest}
+use Rattle.fleet_base.proofs.CanonicalLemmas.{beside_once}
+use Rattle.fleet_base.proofs.ReachLemmas.{steps_from_walk}
+use Rattle.calendars.specs.Records.{is_exchange, covers}
+use Rattle.calendars.specs.Assignments.{traffic_by}
+use Rattle.safe_intervals.specs.Safe.{IsIn}
+use Rattle.sipp_search.specs.declared.states.State.{State}
+use Rattle.sipp_search.specs.Back.{NoneFrom}
+use Rattle.sipp_search.specs.Ties.{IsUnseenAt}
+use Rattle.sipp_search.proofs.Moves.{IsReached, reached_open, beside_differs}
+use Rattle.sipp_search.proofs.Moving.{kept_twice, agrees_before, same_side, rank_low}
+use Rattle.sipp_search.proofs.Paused.{paused_there, paused_known, paused_below, paused_beside, paused_entered, paused_free, unseen_loaded, some_kept, ready_kept, ties_kept, ties_missed, side_found}
+use Rattle.sipp_search.proofs.ties.+arriving.Goals as goal
+
+pub arrival_at-returns-in_default-place_at-clause-told : goal.arrival_at-returns-in_default-place_at-clause-told
+arrival_at-returns-in_default-place_at-clause-told g t c =
+    λ a agrees.
+    paused_there c.args.task.now.grid.now c.args.task.now.request c.args.task.now.horizon (g.V.CalendarView.known c.paused_block.new.view) (g.V.CalendarView.size c.paused_block.new.view) c.paused_block.new.arena c.requires.ready.bound c.in_ok-first.ensures.paused a agrees c.args.cell c.in-Some.first c.args.time (rw c.in-Some.is at c.in_ok-first.ensures.block) (rw c.in-Some.is at c.in_ok-first.ensures.times) c.requires.time
+    (c.in_default-place_at.ensures.none c.args.task.now.grid.now c.args.task.now.request.goal c.args.task.now.horizon (g.V.CalendarView.known c.paused_block.new.view) (rw c.in-Some.is at c.in_ok-first.ensures.block))
+
+pub arrival_at-index-state-requires : goal.arrival_at-index-state-requires
+arrival_at-index-state-requires g t c =
+    let there = c.in-Some-place_at.ensures.some in
+    let len : vec_len c.paused_block.new.arena.states ≡ length c.paused_block.new.arena.states.items = search rules in
+    omega (arith, slice_get_within c.paused_block.new.arena.states.items c.in-Some-place_at.place there.0 there.1)
+
+pub arrival_at-returns-in-Some-seen_by-clause-told : goal.arrival_at-returns-in-Some-seen_by-clause-told
+arrival_at-returns-in-Some-seen_by-clause-told g t c =
+    λ a agrees.
+    (let there = c.in-Some-place_at.ensures.some in
+    let mine : c.index-state.result.now ≡ there.0 = c.index-state.ensures ∙ get_or_from_slice_get c.paused_block.new.arena.states.items c.in-Some-place_at.place there.0 c.index-state.result.now there.1 in
+    let at : slice_get c.paused_block.new.arena.states.items c.in-Some-place_at.place ≡ Some c.index-state.result.now = there.1 ∙ ap (λ (z : State). Some z) (sym mine) in
+    let cell : c.index-state.result.now.spot.cell ≡ c.args.cell = ap (λ (z : State). z.spot.cell) mine ∙ there.2 in
+    let inside : IsIn c.args.time c.index-state.result.now.spot.interval = subst (λ (z : State). IsIn c.args.time z.spot.interval) (sym mine) there.3 in
+    (refl, paused_known c.args.task.now.grid.now c.args.task.now.request c.args.task.now.horizon (g.V.CalendarView.known c.paused_block.new.view) (g.V.CalendarView.size c.paused_block.new.view) c.paused_block.new.arena c.requires.ready.bound c.in_ok-first.ensures.paused a agrees c.in-Some-place_at.place c.in-Some-seen_by.arrival c.args.time c.index-state.result.now c.args.cell at
+    c.in-Some-seen_by.ensures.some.0 cell inside c.in-Some-seen_by.ensures.some.1 (omega (arith, c.in-Some-checked_sub.ensures, c.floor-floor.ensures.value, c.if-room-state.false))))
+
+pub arrival_at-returns-then-state-room-clause-told : goal.arrival_at-returns-then-state-room-clause-told
+arrival_at-returns-then-state-room-clause-told g t c =
+    λ a agrees.
+    (let there = c.in-Some-place_at.ensures.some in
+    let mine : c.index-state.result.now ≡ there.0 = c.index-state.ensures ∙ get_or_from_slice_get c.paused_block.new.arena.states.items c.in-Some-place_at.place there.0 c.index-state.result.now there.1 in
+    let at : slice_get c.paused_block.new.arena.states.items c.in-Some-place_at.place ≡ Some c.index-state.result.now = there.1 ∙ ap (λ (z : State). Some z) (sym mine) in
+    let cell : c.index-state.result.now.spot.cell ≡ c.args.cell = ap (λ (z : State). z.spot.cell) mine ∙ there.2 in
+    let inside : IsIn c.args.time c.index-state.result.now.spot.interval = subst (λ (z : State). IsIn c.args.time z.spot.interval) (sym mine) there.3 in
+    paused_below c.args.task.now.grid.now c.args.task.now.request c.args.task.now.horizon (g.V.CalendarView.known c.paused_block.new.view) (g.V.CalendarView.size c.paused_block.new.view) c.paused_block.new.arena c.requires.ready.bound c.in_ok-first.ensures.paused a agrees c.in-Some-place_at.place c.args.time c.index-state.result.now c.args.cell at cell inside
+    c.in_default-seen_by.ensures.not_final (omega (arith, c.in-Some-checked_sub.ensures, c.floor-floor.ensures.value, c.if-state-room.true)))
+
+pub arrival_at-ask-requires : goal.arrival_at-ask-requires
+arrival_at-ask-requires g t c κs within =
+    (let there = c.in-Some-place_at.ensures.some in
+    let mine : c.index-state.result.now ≡ there.0 = c.index-state.ensures ∙ get_or_from_slice_get c.paused_block.new.arena.states.items c.in-Some-place_at.place there.0 c.index-state.result.now there.1 in
+    let at : slice_get c.paused_block.new.arena.states.items c.in-Some-place_at.place ≡ Some c.index-state.result.now = there.1 ∙ ap (λ (z : State). Some z) (sym mine) in
+    let cell : c.index-state.result.now.spot.cell ≡ c.args.cell = ap (λ (z : State). z.spot.cell) mine ∙ there.2 in
+    let inside : IsIn c.args.time c.index-state.result.now.spot.interval = subst (λ (z : State). IsIn c.args.time z.spot.interval) (sym mine) there.3 in
+    let unseen : IsUnseenAt c.paused_block.new.arena.states.items c.paused_block.new.arena.queue.floor c.in-Some-place_at.place c.args.cell c.args.time = record {
+      state = c.index-state.result.now;
+      stands = at;
+      cell_is = cell;
+      inside = inside;
+      key = omega (arith, c.in-Some-checked_sub.ensures, c.floor-floor.ensures.value, c.if-room-state.false, c.if-state-room.false);
+      not_queued = c.in_default-seen_by.ensures.not_queued;
+      not_final = c.in_default-seen_by.ensures.not_final;
+    } in
+    (omega (arith, c.decreases), (within, (ready_kept c.args.task.now.grid.now c.args.task.now.request c.args.task.now.horizon (g.V.CalendarView.size c.args.view.now) (g.V.CalendarView.size c.paused_block.new.view) c.in_ok-first.ensures.cells c.requires.ready,
+    (c.in_ok-first.ensures.paused, (ties_kept c.args.task.now.grid.now c.args.task.now.request (g.V.CalendarView.known c.args.view.now) (g.V.CalendarView.known c.paused_block.new.view) c.args.ties.now c.in_ok-first.ensures.kept c.requires.ties,
+    (omega (arith, c.requires.cell, c.in_ok-first.ensures.cells), (c.requires.time, unseen))))))))
+
+pub ask-returns-then-branch-clause-ties : goal.ask-returns-then-branch-clause-ties
+ask-returns-then-branch-clause-ties g t c =
+    c.in_ok-is_too_far.ensures.ties (g.V.CalendarView.known c.args.view.now) c.requires.ties
+
+pub ask-returns-then-depth-eq0-clause-ties : goal.ask-returns-then-depth-eq0-clause-ties
+ask-returns-then-depth-eq0-clause-ties g t c =
+    c.in_ok-is_too_far.ensures.ties (g.V.CalendarView.known c.args.view.now) c.requires.ties
+
+pub ask-step_back-requires : goal.ask-step_back-requires
+ask-step_back-requires g t c κs within =
+    (omega (arith, c.decreases, c.if-depth-eq0.false), (within, (c.requires.ready, (c.requires.paused, (c.in_ok-is_too_far.ensures.ties (g.V.CalendarView.known c.args.view.now) c.requires.ties,
+    (unseen_loaded c.args.task.now.grid.now c.args.task.now.request c.args.task.now.horizon (g.V.CalendarView.known c.args.view.now) (g.V.CalendarView.size c.args.view.now) c.args.arena.now c.args.place c.args.time c.args.cell c.requires.paused.sound c.requires.unseen, (c.requires.cell, (c.requires.time,
+    (λ a agrees. paused_free c.args.task.now.grid.now c.args.task.now.request c.args.task.now.horizon (g.V.CalendarView.known c.args.view.now) (g.V.CalendarView.size c.args.view.now) c.args.arena.now c.requires.ready.bound c.requires.paused a agrees c.args.place c.args.time c.args.cell c.requires.unseen)))))))))
+
+pub ask-returns-in-Since-clause-loaded : goal.ask-returns-in-Since-clause-loaded
+ask-returns-in-Since-clause-loaded g t c =
+    some_kept (g.V.CalendarView.known c.args.view.now) (g.V.CalendarView.known c.step_back.new.view) c.args.cell.0 c.in_ok-before.ensures.kept (unseen_loaded c.args.task.now.grid.now c.args.task.now.request c.args.task.now.horizon (g.V.CalendarView.known c.args.view.now) (g.V.CalendarView.size c.args.view.now) c.args.arena.now c.args.place c.args.time c.args.cell c.requires.paused.sound c.requires.unseen)
+
+pub ask-returns-in-Since-clause-told : goal.ask-returns-in-Since-clause-told
+ask-returns-in-Since-clause-told g t c =
+    λ a agrees.
+    (let back = rw c.in-Since.is at (c.in_ok-before.ensures.told a agrees) in
+    (refl, paused_entered c.args.task.now.grid.now c.args.task.now.request c.args.task.now.horizon (g.V.CalendarView.known c.args.view.now) (g.V.CalendarView.size c.args.view.now) c.args.arena.now c.requires.ready.bound c.requires.paused a (agrees_before a (g.V.CalendarView.known c.args.view.now) (g.V.CalendarView.known c.step_back.new.view) c.in_ok-before.ensures.kept agrees) c.args.place c.args.time c.args.cell c.in-Since.field-0.cell c.in-Since.field-0.time c.requires.unseen back))
+
+pub ask-returns-in-Never-clause-ties : goal.ask-returns-in-Never-clause-ties
+ask-returns-in-Never-clause-ties g t c =
+    ties_missed c.args.task.now.grid.now c.args.task.now.request (g.V.CalendarView.known c.step_back.new.view) c.step_back.new.ties c.args.cell c.args.time c.set.new.self c.in_ok-before.ensures.ties (omega (arith, c.requires.cell, c.requires.ready.size_is)) c.set.ensures
+    (λ a agrees. paused_beside c.args.task.now.grid.now c.args.task.now.request c.args.task.now.horizon (g.V.CalendarView.known c.args.view.now) (g.V.CalendarView.size c.args.view.now) c.args.arena.now c.requires.ready.bound c.requires.paused a (agrees_before a (g.V.CalendarView.known c.args.view.now) (g.V.CalendarView.known c.step_back.new.view) c.in_ok-before.ensures.kept agrees) c.args.place c.args.time c.args.cell c.requires.unseen (rw c.in-Never.is at (c.in_ok-before.ensures.told a agrees)))
+
+pub ask-returns-in-Never-clause-told : goal.ask-returns-in-Never-clause-told
+ask-returns-in-Never-clause-told g t c =
+    (λ a agrees. paused_beside c.args.task.now.grid.now c.args.task.now.request c.args.task.now.horizon (g.V.CalendarView.known c.args.view.now) (g.V.CalendarView.size c.args.view.now) c.args.arena.now c.requires.ready.bound c.requires.paused a (agrees_before a (g.V.CalendarView.known c.args.view.now) (g.V.CalendarView.known c.step_back.new.view) c.in_ok-before.ensures.kept agrees) c.args.place c.args.time c.args.cell c.requires.unseen (rw c.in-Never.is at (c.in_ok-before.ensures.told a agrees)))
+
+pub side_back-returns-in-Never-clause-told : goal.side_back-returns-in-Never-clause-told
+side_back-returns-in-Never-clause-told g t c =
+    λ a agrees n u beside time can.
+    (let same : n ≡ c.in-Some.cell = beside_once c.args.task.now.grid.now c.args.side c.args.at n c.in-Some.cell beside c.in-Some.ensures.beside in
+    let before : u ≡ c.args.entered - 1 = omega arith in
+    let reached : IsReached c.args.task.now.grid.now c.args.task.now.request a n u = steps_from_walk c.args.task.now.grid.now c.args.task.now.request (traffic_by a) n u can.reachable in
+    (rw c.in-Never.is at (c.in_ok-told.ensures.told a agrees))
+    (subst (λ (m : ℕ). IsReached c.args.task.now.grid.now c.args.task.now.request a c.in-Some.cell m) before (subst (λ (z : Cell). IsReached c.args.task.now.grid.now c.args.task.now.request a z u) same reached)))
+
+pub side_back-returns-then-not-is_open-clause-told : goal.side_back-returns-then-not-is_open-clause-told
+side_back-returns-then-not-is_open-clause-told g t c =
+    λ a agrees n u beside time can.
+    (let same : n ≡ c.in-Some.cell = beside_once c.args.task.now.grid.now c.args.side c.args.at n c.in-Some.cell beside c.in-Some.ensures.beside in
+    let reached : IsReached c.args.task.now.grid.now c.args.task.now.request a n u = steps_from_walk c.args.task.now.grid.now c.args.task.now.request (traffic_by a) n u can.reachable in
+    let opened = reached_open c.args.task.now.grid.now c.args.task.now.request a (subst (λ (z : Cell). IsReached c.args.task.now.grid.now c.args.task.now.request a z u) same reached) in
+    false≢true (c.if-not-is_open.ensures.1 opened))
+
+pub side_back-returns-then-crossing-clause-told : goal.side_back-returns-then-crossing-clause-told
+side_back-returns-then-crossing-clause-told g t c =
+    λ a agrees n u beside time can.
+    (let told = rw c.in-Since.is at (c.in_ok-told.ensures.told a agrees) in
+    let here : a c.in-Since.hop.cell.0 ≡ c.calendar.result.now = agrees c.in-Since.hop.cell.0 c.calendar.result.now c.calendar.ensures in
+    let there : a c.args.at.0 ≡ c.calendar-2.result.now = agrees c.args.at.0 c.calendar-2.result.now c.calendar-2.ensures in
+    let barred : is_exchange (a c.in-Since.hop.cell.0) (a c.args.at.0) (c.args.entered - 1) ≡ true = rw (here, there) (sym c.if-crossing.ensures) in
+    let same : n ≡ c.in-Some.cell = beside_once c.args.task.now.grid.now c.args.side c.args.at n c.in-Some.cell beside c.in-Some.ensures.beside in
+    let before : u ≡ c.args.entered - 1 = omega arith in
+    let differ : n ≡ c.args.at → ⊥ = λ e. beside_differs c.args.task.now.grid.now c.args.side c.args.at n beside (sym e) in
+    let unbarred : is_exchange (a n.0) (a c.args.at.0) u ≡ false = can.clear.unbarred differ in
+    let unbarred' : is_exchange (a c.in-Since.hop.cell.0) (a c.args.at.0) (c.args.entered - 1) ≡ false =
+    subst (λ (m : ℕ). is_exchange (a c.in-Since.hop.cell.0) (a c.args.at.0) m ≡ false) before
+    (subst (λ (z : Cell). is_exchange (a z.0) (a c.args.at.0) u ≡ false) (same ∙ sym told.0) unbarred) in
+    false≢true (sym unbarred' ∙ barred))
+
+pub side_back-returns-clause-told : goal.side_back-returns-clause-told
+side_back-returns-clause-told g t c =
+    λ a agrees.
+    (let told = rw c.in-Since.is at (c.in_ok-told.ensures.told a agrees) in
+    let here : a c.in-Since.hop.cell.0 ≡ c.calendar.result.now = agrees c.in-Since.hop.cell.0 c.calendar.result.now c.calendar.ensures in
+    let there : a c.args.at.0 ≡ c.calendar-2.result.now = agrees c.args.at.0 c.calendar-2.result.now c.calendar-2.ensures in
+    let unbarred : is_exchange (a c.in-Since.hop.cell.0) (a c.args.at.0) (c.args.entered - 1) ≡ false = rw (here, there) (sym c.if-crossing.ensures) in
+    let beside : IsBeside c.args.task.now.grid.now c.args.side c.args.at c.in-Since.hop.cell = subst (λ (z : Cell). IsBeside c.args.task.now.grid.now c.args.side c.args.at z) (sym told.0) c.in-Some.ensures.beside in
+    let earliest : IsEarliest c.args.task.now.grid.now (traffic_by a) c.args.task.now.request c.in-Since.hop.cell (c.args.entered - 1) c.in-Since.hop.time =
+    subst (λ (z : Cell). IsEarliest c.args.task.now.grid.now (traffic_by a) c.args.task.now.request z (c.args.entered - 1) c.in-Since.hop.time) (sym told.0) told.1 in
+    side_found c.args.task.now.grid.now c.args.task.now.request a c.args.at c.in-Since.hop.cell c.args.entered (c.args.entered - 1) c.in-Since.hop.time c.args.side (omega (arith, c.if-entered-eq0.false)) beside earliest
+    (c.requires.free a (agrees_before a (g.V.CalendarView.known c.args.view.now) (g.V.CalendarView.known c.arrival_at.new.view) c.in_ok-told.ensures.kept agrees)) unbarred)
+
+pub step_back-returns-in-Since-clause-told : goal.step_back-returns-in-Since-clause-told
+step_back-returns-in-Since-clause-told g t c =
+    λ a agrees.
+    (let back = rw c.in-Since.is at (c.in_ok-told.ensures.told a agrees) in
+    record {
+      before = back.before;
+      time_is = back.time_is;
+      first = record {
+        side = c.side_at-side.result;
+        beside = back.beside;
+        precedes = back.precedes;
+        first = λ other m less beside. c.loop-rank.invariant.none a (agrees_before a (g.V.CalendarView.known c.loop-rank.view) (g.V.CalendarView.known c.side_back.new.view) c.in_ok-told.ensures.kept agrees) other (omega (arith, c.side_at-side.ensures)) m back.before beside back.time_is;
+      };
+      earliest = back.earliest;
+    })
+
+pub step_back-loop-rank-preserved : goal.step_back-loop-rank-preserved
+step_back-loop-rank-preserved g t c =
+    record {
+      cells = c.in_ok-told.ensures.cells ∙ c.loop-rank.invariant.cells;
+      went = g.met.V.CalendarView.goes_on _ _ _ c.loop-rank.invariant.went c.in_ok-told.ensures.went;
+      kept = kept_twice _ _ _ c.loop-rank.invariant.kept c.in_ok-told.ensures.kept;
+      paused = c.in_ok-told.ensures.paused;
+      ties = c.in_ok-told.ensures.ties;
+      floor = c.in_ok-told.ensures.floor ∙ c.loop-rank.invariant.floor;
+      count = c.in_ok-told.ensures.count ∙ c.loop-rank.invariant.count;
+      none = λ a agrees side low. elim (cases_lt (rank_of side) c.loop-rank.rank) [
+        | inl less ↦ c.loop-rank.invariant.none a (agrees_before a (g.V.CalendarView.known c.loop-rank.view) (g.V.CalendarView.known c.side_back.new.view) c.in_ok-told.ensures.kept agrees) side less
+        | inr past ↦
+            let same : c.side_at-side.result ≡ side = same_side c.side_at-side.result side (omega (arith, c.side_at-side.ensures)) in
+            subst (λ (z : Side). NoneFrom c.args.task.now.grid.now c.args.task.now.request a c.args.at c.args.entered z) same (rw c.in-Never.is at (c.in_ok-told.ensures.told a agrees))
+      ];
+    }
+
+pub step_back-returns-clause-told : goal.step_back-returns-clause-told
+step_back-returns-clause-told g t c =
+    λ a agrees side n u beside time. c.loop-rank.invariant.none a agrees side (omega (arith, rank_low side, c.loop-rank-test.false)) n u beside time
+

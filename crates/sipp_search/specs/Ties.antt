@@ -1,0 +1,98 @@
+-- What reading back tells while some states of the last key aren't settled.
+use Rattle.std.specs.Prelude.{◌≡◌, ℕ, suc, ◌+◌, ◌<◌, ◌≤◌, List, Option, Some, IsSome, length, slice_get, ⊤}
+use Rattle.fleet_base.specs.declared.grid.Cell.{Cell}
+use Rattle.fleet_base.specs.declared.grid.Side.{Side}
+use Rattle.fleet_base.specs.declared.request.Record.{Record}
+use Rattle.fleet_base.specs.declared.request.Request.{Request}
+use Rattle.fleet_base.specs.Terrain.{Terrain, IsBeside}
+use Rattle.fleet_base.specs.Reach.{Reached, IsArrival}
+use Rattle.fleet_base.specs.Canonical.{CanPrecede, IsFirstBefore, IsEarliest}
+use Rattle.calendars.specs.Assignments.{Assignment, Agrees, traffic_by}
+use Rattle.static_distance.specs.Aim.{room, IsAimed}
+use Rattle.sipp_search.specs.declared.states.Arena.{Arena}
+use Rattle.sipp_search.specs.declared.ties.Ties.{Ties}
+use Rattle.sipp_search.specs.declared.ties.Told.{Told}
+use Rattle.sipp_search.specs.declared.ties.Told.TheVariants.{Since, Never, Unclear}
+use Rattle.safe_intervals.specs.Safe.{IsIn}
+use Rattle.sipp_search.specs.declared.states.State.{State}
+use Rattle.sipp_search.specs.Marks.{queued, final}
+use Rattle.sipp_search.specs.Progress.{IsUnderWay}
+use Rattle.sipp_search.specs.Running.{IsSound}
+use Rattle.sipp_search.specs.Back.{IsOn, NoneFrom}
+
+-- t is the least time at which the goal is reached and the agent may end there
+pub record IsFirstArrival (g : Terrain) (q : Request) (a : Assignment) (t : ℕ) : Type 0 where
+  pub arrives : IsArrival g (traffic_by a) q t
+  pub least : (s : ℕ) → IsArrival g (traffic_by a) q s → t ≤ s
+
+-- the goal was taken at the floor of the queue: all states with a lower key are final
+pub record IsPaused (g : Terrain) (q : Request) (horizon : ℕ) (known : ℕ → Option (List Record)) (size : ℕ) (arena : Arena) : Type 0 where
+  pub sound : IsSound g q horizon known size arena
+  pub in_time : arena.queue.floor ≤ horizon
+  pub on : IsOn arena.states.items q.goal arena.queue.floor
+  pub way : (a : Assignment) (x : ℕ) → Agrees a known → IsUnderWay g q horizon a arena.states.items arena.queue.floor x
+
+-- what is kept of earlier questions has room for grids of that many cells
+pub record HaveRoom (cells : ℕ) (ties : Ties) : Type 0 where
+  pub from_start : room ties.from_start ≡ cells
+  pub missed : length ties.missed ≡ cells
+
+-- moves are counted from the start, and no cell is reached at the time at which it was missed
+pub record AreTies (g : Terrain) (q : Request) (known : ℕ → Option (List Record)) (ties : Ties) : Type 0 where
+  pub fit : HaveRoom (length g.cells) ties
+  pub aimed : IsAimed g ties.from_start
+  pub start_is : ties.from_start.goal ≡ q.start
+  pub missed : (a : Assignment) (c : Cell) (u : ℕ) → Agrees a known → slice_get ties.missed c.0 ≡ Some (suc u) → ¬ (Reached g (traffic_by a) q.start q.depart c u)
+
+-- whether c is reached by u in the safe interval that holds it, and the least time of that
+abbrev pub TellsArrival : Terrain → Request → Assignment → Cell → ℕ → Told → Type 0
+TellsArrival g q a c u (Since hop) = (hop.cell ≡ c) × IsEarliest g (traffic_by a) q c u hop.time
+TellsArrival g q a c u Never = ¬ (Reached g (traffic_by a) q.start q.depart c u)
+TellsArrival g q a c u Unclear = ⊤
+
+-- the cell n on that side of c can precede it, where c is entered at t, and is itself entered at s
+pub record IsSideBack (g : Terrain) (q : Request) (a : Assignment) (c : Cell) (t : ℕ) (side : Side) (n : Cell) (s : ℕ) : Type 0 where
+  pub before : ℕ
+  pub time_is : t ≡ before + 1
+  pub beside : IsBeside g side c n
+  pub precedes : CanPrecede g (traffic_by a) q n c before
+  pub earliest : IsEarliest g (traffic_by a) q n before s
+
+abbrev pub TellsSide : Terrain → Request → Assignment → Cell → ℕ → Side → Told → Type 0
+TellsSide g q a c t side (Since hop) = IsSideBack g q a c t side hop.cell hop.time
+TellsSide g q a c t side Never = NoneFrom g q a c t side
+TellsSide g q a c t side Unclear = ⊤
+
+-- of the neighbours of c that can precede it, n is the first
+pub record IsStepBack (g : Terrain) (q : Request) (a : Assignment) (c : Cell) (t : ℕ) (n : Cell) (s : ℕ) : Type 0 where
+  pub before : ℕ
+  pub time_is : t ≡ before + 1
+  pub first : IsFirstBefore g (traffic_by a) q n c before
+  pub earliest : IsEarliest g (traffic_by a) q n before s
+
+abbrev pub TellsStep : Terrain → Request → Assignment → Cell → ℕ → Told → Type 0
+TellsStep g q a c t (Since hop) = IsStepBack g q a c t hop.cell hop.time
+TellsStep g q a c t Never = (side : Side) → NoneFrom g q a c t side
+TellsStep g q a c t Unclear = ⊤
+
+-- the state at the place is of the cell, its key at that time is the floor, and it isn't known to be reached by then
+pub record IsUnseenAt (states : List State) (floor place : ℕ) (c : Cell) (t : ℕ) : Type 0 where
+  pub state : State
+  pub stands : slice_get states place ≡ Some state
+  pub cell_is : state.spot.cell ≡ c
+  pub inside : IsIn t state.spot.interval
+  pub key : t + state.spot.left ≡ floor
+  pub not_queued : (r : ℕ) → state ≡ queued state.spot r → t < r
+  pub not_final : (r : ℕ) → state ≡ final state.spot r → t < r
+
+-- where it was reached, the cell's calendar is known
+abbrev pub LoadedWhereSince : (ℕ → Option (List Record)) → Told → Type 0
+LoadedWhereSince known (Since hop) = IsSome (known hop.cell.0)
+LoadedWhereSince known Never = ⊤
+LoadedWhereSince known Unclear = ⊤
+
+-- where it was reached, that was by then
+abbrev pub EarlierThan : ℕ → Told → Type 0
+EarlierThan t (Since hop) = hop.time + 1 ≤ t
+EarlierThan t Never = ⊤
+EarlierThan t Unclear = ⊤

@@ -1,0 +1,375 @@
+ghost use Rattle.std.specs.Prelude.{◌≡◌, ℕ, suc, ◌+◌, ◌<◌, ◌≤◌, ◌⊎◌, false, List, Option, Some, None, IsSome, OnOk, IfOk, IfSome, IfNone, length, slice_get};
+ghost use Rattle.std.specs.Bool.{OnTrue, OnFalse};
+ghost use Rattle.fleet_base.specs.declared.request.Record.{Record};
+ghost use Rattle.fleet_base.specs.Canonical.{ReadsBack};
+ghost use Rattle.fleet_base.specs.Reach.{Reached};
+ghost use Rattle.calendars.specs.Records.{covers};
+ghost use Rattle.calendars.specs.Assignments.{Assignment, Agrees, traffic_by};
+ghost use Rattle.sipp_search.specs.Marks.{final_count, final, queued, spots_of};
+ghost use Rattle.sipp_search.specs.Arena.{IsBlock, HasTimes};
+ghost use Rattle.sipp_search.specs.Running.{IsReady, Serves, KeepsKnown};
+ghost use Rattle.sipp_search.specs.Ties.{IsPaused, HaveRoom, AreTies, TellsArrival, TellsSide, TellsStep, IsUnseenAt, LoadedWhereSince, EarlierThan, IsFirstArrival};
+
+use crate::back::{Hop, push_hop};
+use crate::begin::place_at;
+use crate::expand::side_at;
+use crate::states::{Arena, Mark, State};
+use crate::task::Task;
+use crate::touch::block_of;
+use calendars::{CalendarView, crossing};
+use fleet_base::{Cell, Memory, Side};
+use stamped_list::StampedList;
+use static_distance::Distances;
+use std::alloc::Global;
+
+// So many moves back it is asked whether a state is reached, before the rest of its key is settled instead.
+const DEPTH: u32 = 1000;
+
+// What reading back keeps of earlier questions: the moves from the start, and by the cell's number 1 plus the time at which
+// the cell was found not to be reached.
+#[derive(Drop)]
+pub struct Ties {
+    pub from_start: Distances,
+    pub missed: StampedList,
+}
+
+// What is told of a cell at a time: since when it is reached, that it never is, or that it wasn't found out.
+#[derive(Clone, Copy)]
+pub enum Told {
+    Since(Hop),
+    Never,
+    Unclear,
+}
+
+// For grids of that many cells.
+pub fn new_ties(alloc: Global, cells: usize) -> Result<Ties, Memory>
+    ensures { IfOk result (HaveRoom cells) }
+{
+    Ok(Ties {
+        from_start: Distances::new(alloc, cells)?,
+        missed: StampedList::new(alloc, cells)?,
+    })
+}
+
+// Forgets earlier questions, and counts moves from the start.
+fn forget(task: &Task, ties: &mut Ties) -> Result<(), Memory>
+    requires fit { HaveRoom (length task.now.grid.now.cells) ties.old }
+    requires start { task.now.request.start.0 < length task.now.grid.now.cells }
+    requires goal { task.now.request.goal.0 < length task.now.grid.now.cells }
+    ensures fit { HaveRoom (length task.now.grid.now.cells) ties.new }
+    ensures ties { OnOk result ((known : ℕ → Option (List Record)) → AreTies task.now.grid.now task.now.request known ties.new) }
+{
+    ties.missed.clear();
+    ties.from_start
+        .aim(task.grid, task.request.start, task.request.goal)?;
+    Ok(())
+}
+
+// Whether the cell is too far from the start to be reached by that time.
+fn is_too_far(task: &Task, ties: &mut Ties, cell: Cell, time: u32) -> Result<bool, Memory>
+    requires cell { cell.0 < length task.now.grid.now.cells }
+    requires fit { HaveRoom (length task.now.grid.now.cells) ties.old }
+    requires ties { (known : ℕ → Option (List Record)) × AreTies task.now.grid.now task.now.request known ties.old }
+    ensures fit { HaveRoom (length task.now.grid.now.cells) ties.new }
+    ensures ties { OnOk result ((known : ℕ → Option (List Record)) → AreTies task.now.grid.now task.now.request known ties.old → AreTies task.now.grid.now task.now.request known ties.new) }
+    ensures far { IfOk result (λ far. OnTrue far ((a : Assignment) → Reached task.now.grid.now (traffic_by a) task.now.request.start task.now.request.depart cell time → ⊥)) }
+{
+    let Some(moves) = ties.from_start.to_goal(task.grid, cell)? else {
+        return Ok(true);
+    };
+    let Some(since) = time.checked_sub(task.request.depart) else {
+        return Ok(true);
+    };
+    if since < moves {
+        return Ok(true);
+    }
+    Ok(false)
+}
+
+// The arrival that is known of a state, where it isn't after the time.
+fn seen_by(state: State, time: u32) -> Option<u32>
+    ensures some { IfSome result (λ r. ((state ≡ queued state.spot r) ⊎ (state ≡ final state.spot r)) × (r ≤ time)) }
+    ensures not_queued { IfNone result ((r : ℕ) → state ≡ queued state.spot r → time < r) }
+    ensures not_final { IfNone result ((r : ℕ) → state ≡ final state.spot r → time < r) }
+{
+    let arrival = match state.mark {
+        Mark::Unseen => return None,
+        Mark::Queued(arrival) => arrival,
+        Mark::Final(arrival) => arrival,
+    };
+    if time < arrival {
+        return None;
+    }
+    Some(arrival)
+}
+
+// Touches a cell while the search pauses.
+fn paused_block<V: CalendarView>(
+    task: &Task,
+    view: &mut V,
+    arena: &mut Arena,
+    cell: Cell,
+) -> Result<Option<usize>, Memory>
+    requires ready { IsReady task.now.grid.now task.now.request task.now.horizon (V.size view.old) }
+    requires paused { IsPaused task.now.grid.now task.now.request task.now.horizon (V.known view.old) (V.size view.old) arena.old }
+    requires cell { cell.0 < V.size view.old }
+    ensures cells { V.size view.new ≡ V.size view.old }
+    ensures went { V.went view.old view.new }
+    ensures kept { KeepsKnown (V.known view.old) (V.known view.new) }
+    ensures serves { Serves task.now.horizon (length task.now.grid.now.cells) arena.new }
+    ensures paused { OnOk result (IsPaused task.now.grid.now task.now.request task.now.horizon (V.known view.new) (V.size view.new) arena.new) }
+    ensures floor { OnOk result (arena.new.queue.floor ≡ arena.old.queue.floor) }
+    ensures count { OnOk result (final_count arena.new.states.items ≡ final_count arena.old.states.items) }
+    ensures block { IfOk result (λ o. IfSome o (λ first. IsBlock task.now.grid.now task.now.request.goal task.now.horizon (V.known view.new) (spots_of arena.new.states.items) cell first)) }
+    ensures times { IfOk result (λ o. IfSome o (λ first. HasTimes task.now.grid.now task.now.request.goal task.now.horizon (V.known view.new) arena.new.queue.floor (spots_of arena.new.states.items) cell first)) }
+{
+    let first = block_of(task, view, arena, cell)?;
+    Ok(first)
+}
+
+// Since when the cell is reached in its safe interval that holds the time.
+#[cycle(arriving)]
+fn arrival_at<V: CalendarView>(
+    task: &Task,
+    view: &mut V,
+    arena: &mut Arena,
+    ties: &mut Ties,
+    cell: Cell,
+    time: u32,
+    depth: u32,
+) -> Result<Told, Memory>
+    requires ready { IsReady task.now.grid.now task.now.request task.now.horizon (V.size view.old) }
+    requires paused { IsPaused task.now.grid.now task.now.request task.now.horizon (V.known view.old) (V.size view.old) arena.old }
+    requires ties { AreTies task.now.grid.now task.now.request (V.known view.old) ties.old }
+    requires cell { cell.0 < V.size view.old }
+    requires time { time ≤ task.now.horizon }
+    ensures cells { V.size view.new ≡ V.size view.old }
+    ensures went { V.went view.old view.new }
+    ensures kept { KeepsKnown (V.known view.old) (V.known view.new) }
+    ensures serves { Serves task.now.horizon (length task.now.grid.now.cells) arena.new }
+    ensures fit { HaveRoom (length task.now.grid.now.cells) ties.new }
+    ensures paused { OnOk result (IsPaused task.now.grid.now task.now.request task.now.horizon (V.known view.new) (V.size view.new) arena.new) }
+    ensures ties { OnOk result (AreTies task.now.grid.now task.now.request (V.known view.new) ties.new) }
+    ensures floor { OnOk result (arena.new.queue.floor ≡ arena.old.queue.floor) }
+    ensures count { OnOk result (final_count arena.new.states.items ≡ final_count arena.old.states.items) }
+    ensures loaded { IfOk result (LoadedWhereSince (V.known view.new)) }
+    ensures early { IfOk result (EarlierThan (time + 1)) }
+    ensures told { IfOk result (λ told. (a : Assignment) → Agrees a (V.known view.new) → TellsArrival task.now.grid.now task.now.request a cell time told) }
+{
+    let Some(first) = paused_block(task, view, arena, cell)? else {
+        return Ok(Told::Unclear);
+    };
+    let Some(place) = place_at(&*arena, first, cell, time) else {
+        return Ok(Told::Never);
+    };
+    let state = arena.states[place];
+    let floor = arena.queue.floor();
+    let Some(room) = floor.checked_sub(time as usize) else {
+        return Ok(Told::Unclear);
+    };
+    if room < state.spot.left as usize {
+        return Ok(Told::Unclear);
+    }
+    if let Some(arrival) = seen_by(state, time) {
+        return Ok(Told::Since(Hop {
+            cell,
+            time: arrival,
+        }));
+    }
+    if (state.spot.left as usize) < room {
+        return Ok(Told::Never);
+    }
+    let told = ask(task, view, arena, ties, cell, time, place, depth)?;
+    Ok(told)
+}
+
+// The same for a state of the last key that no move was seen to reach: it is entered then, or it isn't reached.
+#[cycle(arriving)]
+fn ask<V: CalendarView>(
+    task: &Task,
+    view: &mut V,
+    arena: &mut Arena,
+    ties: &mut Ties,
+    cell: Cell,
+    time: u32,
+    place: usize,
+    depth: u32,
+) -> Result<Told, Memory>
+    requires ready { IsReady task.now.grid.now task.now.request task.now.horizon (V.size view.old) }
+    requires paused { IsPaused task.now.grid.now task.now.request task.now.horizon (V.known view.old) (V.size view.old) arena.old }
+    requires ties { AreTies task.now.grid.now task.now.request (V.known view.old) ties.old }
+    requires cell { cell.0 < V.size view.old }
+    requires time { time ≤ task.now.horizon }
+    requires unseen { IsUnseenAt arena.old.states.items arena.old.queue.floor place cell time }
+    ensures cells { V.size view.new ≡ V.size view.old }
+    ensures went { V.went view.old view.new }
+    ensures kept { KeepsKnown (V.known view.old) (V.known view.new) }
+    ensures serves { Serves task.now.horizon (length task.now.grid.now.cells) arena.new }
+    ensures fit { HaveRoom (length task.now.grid.now.cells) ties.new }
+    ensures paused { OnOk result (IsPaused task.now.grid.now task.now.request task.now.horizon (V.known view.new) (V.size view.new) arena.new) }
+    ensures ties { OnOk result (AreTies task.now.grid.now task.now.request (V.known view.new) ties.new) }
+    ensures floor { OnOk result (arena.new.queue.floor ≡ arena.old.queue.floor) }
+    ensures count { OnOk result (final_count arena.new.states.items ≡ final_count arena.old.states.items) }
+    ensures loaded { IfOk result (LoadedWhereSince (V.known view.new)) }
+    ensures early { IfOk result (EarlierThan (time + 1)) }
+    ensures told { IfOk result (λ told. (a : Assignment) → Agrees a (V.known view.new) → TellsArrival task.now.grid.now task.now.request a cell time told) }
+{
+    if ties.missed.get(cell.0 as usize) == time + 1 {
+        return Ok(Told::Never);
+    }
+    if is_too_far(task, ties, cell, time)? {
+        return Ok(Told::Never);
+    }
+    if depth == 0 {
+        return Ok(Told::Unclear);
+    }
+    let before = step_back(task, view, arena, ties, cell, time, depth - 1)?;
+    match before {
+        Told::Since(_) => Ok(Told::Since(Hop { cell, time })),
+        Told::Never => {
+            ties.missed.set(cell.0 as usize, time + 1);
+            Ok(Told::Never)
+        }
+        Told::Unclear => Ok(Told::Unclear),
+    }
+}
+
+// Where the agent came from on that side, if the cell that is entered at that time can be reached from there.
+#[cycle(arriving)]
+fn side_back<V: CalendarView>(
+    task: &Task,
+    view: &mut V,
+    arena: &mut Arena,
+    ties: &mut Ties,
+    at: Cell,
+    entered: u32,
+    side: Side,
+    depth: u32,
+) -> Result<Told, Memory>
+    requires ready { IsReady task.now.grid.now task.now.request task.now.horizon (V.size view.old) }
+    requires paused { IsPaused task.now.grid.now task.now.request task.now.horizon (V.known view.old) (V.size view.old) arena.old }
+    requires ties { AreTies task.now.grid.now task.now.request (V.known view.old) ties.old }
+    requires known { IsSome (V.known view.old at.0) }
+    requires cell { at.0 < V.size view.old }
+    requires time { entered ≤ task.now.horizon }
+    requires free { (a : Assignment) → Agrees a (V.known view.old) → covers (a at.0) entered ≡ false }
+    ensures cells { V.size view.new ≡ V.size view.old }
+    ensures went { V.went view.old view.new }
+    ensures kept { KeepsKnown (V.known view.old) (V.known view.new) }
+    ensures serves { Serves task.now.horizon (length task.now.grid.now.cells) arena.new }
+    ensures fit { HaveRoom (length task.now.grid.now.cells) ties.new }
+    ensures paused { OnOk result (IsPaused task.now.grid.now task.now.request task.now.horizon (V.known view.new) (V.size view.new) arena.new) }
+    ensures ties { OnOk result (AreTies task.now.grid.now task.now.request (V.known view.new) ties.new) }
+    ensures floor { OnOk result (arena.new.queue.floor ≡ arena.old.queue.floor) }
+    ensures count { OnOk result (final_count arena.new.states.items ≡ final_count arena.old.states.items) }
+    ensures loaded { IfOk result (LoadedWhereSince (V.known view.new)) }
+    ensures early { IfOk result (EarlierThan entered) }
+    ensures told { IfOk result (λ told. (a : Assignment) → Agrees a (V.known view.new) → TellsSide task.now.grid.now task.now.request a at entered side told) }
+{
+    if entered == 0 {
+        return Ok(Told::Never);
+    }
+    let Some(cell) = task.grid.neighbour(at, side) else {
+        return Ok(Told::Never);
+    };
+    if !task.grid.is_open(cell) {
+        return Ok(Told::Never);
+    }
+    let told = arrival_at(task, view, arena, ties, cell, entered - 1, depth)?;
+    let hop = match told {
+        Told::Since(hop) => hop,
+        Told::Never => return Ok(Told::Never),
+        Told::Unclear => return Ok(Told::Unclear),
+    };
+    if crossing(view.calendar(hop.cell), view.calendar(at), entered - 1) {
+        return Ok(Told::Never);
+    }
+    Ok(Told::Since(hop))
+}
+
+// The first neighbour, in the order up, left, right, down, from which the cell can be entered at that time.
+#[cycle(arriving)]
+fn step_back<V: CalendarView>(
+    task: &Task,
+    view: &mut V,
+    arena: &mut Arena,
+    ties: &mut Ties,
+    at: Cell,
+    entered: u32,
+    depth: u32,
+) -> Result<Told, Memory>
+    requires ready { IsReady task.now.grid.now task.now.request task.now.horizon (V.size view.old) }
+    requires paused { IsPaused task.now.grid.now task.now.request task.now.horizon (V.known view.old) (V.size view.old) arena.old }
+    requires ties { AreTies task.now.grid.now task.now.request (V.known view.old) ties.old }
+    requires known { IsSome (V.known view.old at.0) }
+    requires cell { at.0 < V.size view.old }
+    requires time { entered ≤ task.now.horizon }
+    requires free { (a : Assignment) → Agrees a (V.known view.old) → covers (a at.0) entered ≡ false }
+    ensures cells { V.size view.new ≡ V.size view.old }
+    ensures went { V.went view.old view.new }
+    ensures kept { KeepsKnown (V.known view.old) (V.known view.new) }
+    ensures serves { Serves task.now.horizon (length task.now.grid.now.cells) arena.new }
+    ensures fit { HaveRoom (length task.now.grid.now.cells) ties.new }
+    ensures paused { OnOk result (IsPaused task.now.grid.now task.now.request task.now.horizon (V.known view.new) (V.size view.new) arena.new) }
+    ensures ties { OnOk result (AreTies task.now.grid.now task.now.request (V.known view.new) ties.new) }
+    ensures floor { OnOk result (arena.new.queue.floor ≡ arena.old.queue.floor) }
+    ensures count { OnOk result (final_count arena.new.states.items ≡ final_count arena.old.states.items) }
+    ensures loaded { IfOk result (LoadedWhereSince (V.known view.new)) }
+    ensures early { IfOk result (EarlierThan entered) }
+    ensures told { IfOk result (λ told. (a : Assignment) → Agrees a (V.known view.new) → TellsStep task.now.grid.now task.now.request a at entered told) }
+{
+    for rank in 0..4 {
+        let side = side_at(rank);
+        let told = side_back(task, view, arena, ties, at, entered, side, depth)?;
+        match told {
+            Told::Since(hop) => return Ok(Told::Since(hop)),
+            Told::Never => {}
+            Told::Unclear => return Ok(Told::Unclear),
+        }
+    }
+    Ok(Told::Never)
+}
+
+// The cells of the canonical walk, read back from the goal at its first arrival; none where that isn't clear.
+pub fn read_ties<V: CalendarView>(
+    alloc: Global,
+    task: &Task,
+    view: &mut V,
+    arena: &mut Arena,
+    ties: &mut Ties,
+    arrival: u32,
+) -> Result<Option<Vec<Cell>>, Memory>
+    requires ready { IsReady task.now.grid.now task.now.request task.now.horizon (V.size view.old) }
+    requires paused { IsPaused task.now.grid.now task.now.request task.now.horizon (V.known view.old) (V.size view.old) arena.old }
+    requires fit { HaveRoom (length task.now.grid.now.cells) ties.old }
+    requires arrival { arena.old.queue.floor ≡ arrival }
+    requires start { task.now.request.start.0 < V.size view.old }
+    requires goal { task.now.request.goal.0 < V.size view.old }
+    ensures cells { V.size view.new ≡ V.size view.old }
+    ensures went { V.went view.old view.new }
+    ensures kept { KeepsKnown (V.known view.old) (V.known view.new) }
+    ensures serves { Serves task.now.horizon (length task.now.grid.now.cells) arena.new }
+    ensures fit { HaveRoom (length task.now.grid.now.cells) ties.new }
+    ensures paused { OnOk result (IsPaused task.now.grid.now task.now.request task.now.horizon (V.known view.new) (V.size view.new) arena.new) }
+    ensures floor { OnOk result (arena.new.queue.floor ≡ arena.old.queue.floor) }
+    ensures count { OnOk result (final_count arena.new.states.items ≡ final_count arena.old.states.items) }
+    ensures cells_back { IfOk result (λ o. IfSome o (λ v. (a : Assignment) → Agrees a (V.known view.new) → ReadsBack task.now.grid.now (traffic_by a) task.now.request task.now.request.goal arrival v.items)) }
+{
+    forget(task, ties)?;
+    let mut cells = Vec::new(alloc);
+    let mut at = task.request.goal;
+    let mut time = arrival;
+    let mut told = step_back(task, view, arena, ties, at, time, DEPTH)?;
+    while let Told::Since(hop) = told {
+        push_hop(&mut cells, at, hop.cell, time - 1 - hop.time)?;
+        at = hop.cell;
+        time = hop.time;
+        told = step_back(task, view, arena, ties, at, time, DEPTH)?;
+    }
+    let Told::Never = told else {
+        return Ok(None);
+    };
+    cells.push(at)?;
+    cells.reverse();
+    Ok(Some(cells))
+}
