@@ -87,8 +87,7 @@ returns-then-may_end-clause-paused g c =
     let floor : c.expand.new.arena.queue.floor ≡ c.in-Some.taken.arrival + c.in-Some.taken.spot.left = c.in_ok-expand.ensures.floor ∙ ap (λ (z : Queue). z.floor) c.in-Some.ensures.some.queue_is in
     let yes = c.if-may_end.ensures.yes in
     let none_left : c.in-Some.taken.spot.left ≡ 0 = goal_left c.args.task.now.grid.now c.args.task.now.request.goal c.requires.ready.bound c.in-Some.taken.spot.cell c.in-Some.taken.spot.left yes.0 of.distance in
-    let time : c.expand.new.arena.queue.floor ≡ c.in-Some.taken.arrival = omega arith in
-    (
+    let time : c.expand.new.arena.queue.floor ≡ c.in-Some.taken.arrival = omega arith in (
       record {
         sound = c.in_ok-expand.ensures.sound;
         in_time = omega (arith, c.in-Some.ensures.some.in_limit);
@@ -99,11 +98,11 @@ returns-then-may_end-clause-paused g c =
           cell_is = yes.0;
         };
         way = λ a x agrees.
-          (let before = agrees_before a (g.V.CalendarView.known c.loop-taken.view) (g.V.CalendarView.known c.expand.new.view) c.in_ok-expand.ensures.kept agrees in
-          let settled = settled_next_way c.args.task.now.grid.now c.args.task.now.request c.args.task.now.horizon a c.requires.ready.bound c.loop-taken.arena c.settle_next.new.arena c.args.task.now.horizon c.in-Some.taken
-          (spots_right c.args.task.now.grid.now c.args.task.now.request.goal c.args.task.now.horizon (g.V.CalendarView.known c.loop-taken.view) (spots_of c.loop-taken.arena.states.items) c.loop-taken.arena.firsts c.args.task.now.request a refl c.loop-taken.invariant.sound.arranged before)
-          (λ y. c.loop-taken.invariant.way a y before) c.in-Some.ensures.some in
-          subst (λ (n : ℕ). IsUnderWay c.args.task.now.grid.now c.args.task.now.request c.args.task.now.horizon a c.expand.new.arena.states.items n x) (sym c.in_ok-expand.ensures.floor) (c.in_ok-expand.ensures.led a x agrees settled));
+            (let before = agrees_before a (g.V.CalendarView.known c.loop-taken.view) (g.V.CalendarView.known c.expand.new.view) c.in_ok-expand.ensures.kept agrees in
+            let settled = settled_next_way c.args.task.now.grid.now c.args.task.now.request c.args.task.now.horizon a c.requires.ready.bound c.loop-taken.arena c.settle_next.new.arena c.args.task.now.horizon c.in-Some.taken
+            (spots_right c.args.task.now.grid.now c.args.task.now.request.goal c.args.task.now.horizon (g.V.CalendarView.known c.loop-taken.view) (spots_of c.loop-taken.arena.states.items) c.loop-taken.arena.firsts c.args.task.now.request a refl c.loop-taken.invariant.sound.arranged before)
+            (λ y. c.loop-taken.invariant.way a y before) c.in-Some.ensures.some in
+            subst (λ (n : ℕ). IsUnderWay c.args.task.now.grid.now c.args.task.now.request c.args.task.now.horizon a c.expand.new.arena.states.items n x) (sym c.in_ok-expand.ensures.floor) (c.in_ok-expand.ensures.led a x agrees settled));
       },
       time,
     )
@@ -121,11 +120,11 @@ returns-then-may_end-clause-first g c =
     let inside : IsIn c.in-Some.taken.arrival c.in-Some.taken.spot.interval =
     queued_inside c.args.task.now.grid.now c.args.task.now.request c.args.task.now.horizon (g.V.CalendarView.known c.loop-taken.view) c.loop-taken.arena.states.items c.loop-taken.arena.queue.floor c.in-Some.taken.id c.in-Some.taken.arrival c.in-Some.taken.spot c.loop-taken.invariant.way c.in-Some.ensures.some.was in
     let way : (a : Assignment) (x : ℕ) → Agrees a (g.V.CalendarView.known c.expand.new.view) → IsUnderWay c.args.task.now.grid.now c.args.task.now.request c.args.task.now.horizon a c.expand.new.arena.states.items c.expand.new.arena.queue.floor x = λ a x agrees.
-          (let before = agrees_before a (g.V.CalendarView.known c.loop-taken.view) (g.V.CalendarView.known c.expand.new.view) c.in_ok-expand.ensures.kept agrees in
-          let settled = settled_next_way c.args.task.now.grid.now c.args.task.now.request c.args.task.now.horizon a c.requires.ready.bound c.loop-taken.arena c.settle_next.new.arena c.args.task.now.horizon c.in-Some.taken
-          (spots_right c.args.task.now.grid.now c.args.task.now.request.goal c.args.task.now.horizon (g.V.CalendarView.known c.loop-taken.view) (spots_of c.loop-taken.arena.states.items) c.loop-taken.arena.firsts c.args.task.now.request a refl c.loop-taken.invariant.sound.arranged before)
-          (λ y. c.loop-taken.invariant.way a y before) c.in-Some.ensures.some in
-          subst (λ (n : ℕ). IsUnderWay c.args.task.now.grid.now c.args.task.now.request c.args.task.now.horizon a c.expand.new.arena.states.items n x) (sym c.in_ok-expand.ensures.floor) (c.in_ok-expand.ensures.led a x agrees settled)) in
+    (let before = agrees_before a (g.V.CalendarView.known c.loop-taken.view) (g.V.CalendarView.known c.expand.new.view) c.in_ok-expand.ensures.kept agrees in
+    let settled = settled_next_way c.args.task.now.grid.now c.args.task.now.request c.args.task.now.horizon a c.requires.ready.bound c.loop-taken.arena c.settle_next.new.arena c.args.task.now.horizon c.in-Some.taken
+    (spots_right c.args.task.now.grid.now c.args.task.now.request.goal c.args.task.now.horizon (g.V.CalendarView.known c.loop-taken.view) (spots_of c.loop-taken.arena.states.items) c.loop-taken.arena.firsts c.args.task.now.request a refl c.loop-taken.invariant.sound.arranged before)
+    (λ y. c.loop-taken.invariant.way a y before) c.in-Some.ensures.some in
+    subst (λ (n : ℕ). IsUnderWay c.args.task.now.grid.now c.args.task.now.request c.args.task.now.horizon a c.expand.new.arena.states.items n x) (sym c.in_ok-expand.ensures.floor) (c.in_ok-expand.ensures.led a x agrees settled)) in
     λ a agrees.
     (let ends = ends_found c.args.task.now.request a c.loop-taken.arena.states.items c.expand.new.arena.states.items c.in-Some.taken.id c.in-Some.taken.arrival c.in-Some.taken.spot more (c.loop-taken.invariant.ends a (agrees_before a (g.V.CalendarView.known c.loop-taken.view) (g.V.CalendarView.known c.expand.new.view) c.in_ok-expand.ensures.kept agrees)) yes.0 (λ t at'. yes.1 a agrees t at') inside in
     subst (λ (n : ℕ). IsFirstArrival c.args.task.now.grid.now c.args.task.now.request a n) time

@@ -11,4 +11,3 @@ begin-requires-clause-sound g c =
 pub run_first-requires-clause-way : goal.run_first-requires-clause-way
 run_first-requires-clause-way g c = λ a x agrees.
     subst (λ (n : ℕ). IsUnderWay c.args.task.now.grid.now c.args.task.now.request c.args.task.now.horizon a c.begin.new.arena.states.items n x) (sym c.in_ok-begin.ensures.floor) (c.in_ok-begin.ensures.way a x agrees)
-

@@ -71,11 +71,11 @@ loop-taken-preserved g c =
           cell_is = c.loop-taken.invariant.paused.on.cell_is;
         };
         way = λ a x agrees.
-          (let before = agrees_before a (g.V.CalendarView.known c.loop-taken.view) (g.V.CalendarView.known c.expand.new.view) c.in_ok-expand.ensures.kept agrees in
-          let settled = settled_next_way c.args.task.now.grid.now c.args.task.now.request c.args.task.now.horizon a c.requires.ready.bound c.loop-taken.arena c.settle_next.new.arena c.args.limit c.in-Some.taken
-          (spots_right c.args.task.now.grid.now c.args.task.now.request.goal c.args.task.now.horizon (g.V.CalendarView.known c.loop-taken.view) (spots_of c.loop-taken.arena.states.items) c.loop-taken.arena.firsts c.args.task.now.request a refl c.loop-taken.invariant.paused.sound.arranged before)
-          (λ y. c.loop-taken.invariant.paused.way a y before) c.in-Some.ensures.some in
-          subst (λ (n : ℕ). IsUnderWay c.args.task.now.grid.now c.args.task.now.request c.args.task.now.horizon a c.expand.new.arena.states.items n x) (sym c.in_ok-expand.ensures.floor) (c.in_ok-expand.ensures.led a x agrees settled));
+            (let before = agrees_before a (g.V.CalendarView.known c.loop-taken.view) (g.V.CalendarView.known c.expand.new.view) c.in_ok-expand.ensures.kept agrees in
+            let settled = settled_next_way c.args.task.now.grid.now c.args.task.now.request c.args.task.now.horizon a c.requires.ready.bound c.loop-taken.arena c.settle_next.new.arena c.args.limit c.in-Some.taken
+            (spots_right c.args.task.now.grid.now c.args.task.now.request.goal c.args.task.now.horizon (g.V.CalendarView.known c.loop-taken.view) (spots_of c.loop-taken.arena.states.items) c.loop-taken.arena.firsts c.args.task.now.request a refl c.loop-taken.invariant.paused.sound.arranged before)
+            (λ y. c.loop-taken.invariant.paused.way a y before) c.in-Some.ensures.some in
+            subst (λ (n : ℕ). IsUnderWay c.args.task.now.grid.now c.args.task.now.request c.args.task.now.horizon a c.expand.new.arena.states.items n x) (sym c.in_ok-expand.ensures.floor) (c.in_ok-expand.ensures.led a x agrees settled));
       };
       floor = sym same ∙ c.loop-taken.invariant.floor;
       rises = omega (arith, c.tick.ensures, c.loop-taken.invariant.rises);

@@ -37,9 +37,11 @@ arrival_at-returns-in-Some-seen_by-clause-told g t c =
     let mine : c.index-state.result.now ≡ there.0 = c.index-state.ensures ∙ get_or_from_slice_get c.paused_block.new.arena.states.items c.in-Some-place_at.place there.0 c.index-state.result.now there.1 in
     let at : slice_get c.paused_block.new.arena.states.items c.in-Some-place_at.place ≡ Some c.index-state.result.now = there.1 ∙ ap (λ (z : State). Some z) (sym mine) in
     let cell : c.index-state.result.now.spot.cell ≡ c.args.cell = ap (λ (z : State). z.spot.cell) mine ∙ there.2 in
-    let inside : IsIn c.args.time c.index-state.result.now.spot.interval = subst (λ (z : State). IsIn c.args.time z.spot.interval) (sym mine) there.3 in
-    (refl, paused_known c.args.task.now.grid.now c.args.task.now.request c.args.task.now.horizon (g.V.CalendarView.known c.paused_block.new.view) (g.V.CalendarView.size c.paused_block.new.view) c.paused_block.new.arena c.requires.ready.bound c.in_ok-first.ensures.paused a agrees c.in-Some-place_at.place c.in-Some-seen_by.arrival c.args.time c.index-state.result.now c.args.cell at
-    c.in-Some-seen_by.ensures.some.0 cell inside c.in-Some-seen_by.ensures.some.1 (omega (arith, c.in-Some-checked_sub.ensures, c.floor-floor.ensures.value, c.if-room-state.false))))
+    let inside : IsIn c.args.time c.index-state.result.now.spot.interval = subst (λ (z : State). IsIn c.args.time z.spot.interval) (sym mine) there.3 in (
+      refl,
+      paused_known c.args.task.now.grid.now c.args.task.now.request c.args.task.now.horizon (g.V.CalendarView.known c.paused_block.new.view) (g.V.CalendarView.size c.paused_block.new.view) c.paused_block.new.arena c.requires.ready.bound c.in_ok-first.ensures.paused a agrees c.in-Some-place_at.place c.in-Some-seen_by.arrival c.args.time c.index-state.result.now c.args.cell at
+          c.in-Some-seen_by.ensures.some.0 cell inside c.in-Some-seen_by.ensures.some.1 (omega (arith, c.in-Some-checked_sub.ensures, c.floor-floor.ensures.value, c.if-room-state.false)),
+    ))
 
 pub arrival_at-returns-then-state-room-clause-told : goal.arrival_at-returns-then-state-room-clause-told
 arrival_at-returns-then-state-room-clause-told g t c =
@@ -67,10 +69,22 @@ arrival_at-ask-requires g t c κs within =
       key = omega (arith, c.in-Some-checked_sub.ensures, c.floor-floor.ensures.value, c.if-room-state.false, c.if-state-room.false);
       not_queued = c.in_default-seen_by.ensures.not_queued;
       not_final = c.in_default-seen_by.ensures.not_final;
-    } in
-    (omega (arith, c.decreases), (within, (ready_kept c.args.task.now.grid.now c.args.task.now.request c.args.task.now.horizon (g.V.CalendarView.size c.args.view.now) (g.V.CalendarView.size c.paused_block.new.view) c.in_ok-first.ensures.cells c.requires.ready,
-    (c.in_ok-first.ensures.paused, (ties_kept c.args.task.now.grid.now c.args.task.now.request (g.V.CalendarView.known c.args.view.now) (g.V.CalendarView.known c.paused_block.new.view) c.args.ties.now c.in_ok-first.ensures.kept c.requires.ties,
-    (omega (arith, c.requires.cell, c.in_ok-first.ensures.cells), (c.requires.time, unseen))))))))
+    } in (
+      omega (arith, c.decreases),
+      (
+        within,
+        (
+          ready_kept c.args.task.now.grid.now c.args.task.now.request c.args.task.now.horizon (g.V.CalendarView.size c.args.view.now) (g.V.CalendarView.size c.paused_block.new.view) c.in_ok-first.ensures.cells c.requires.ready,
+          (
+            c.in_ok-first.ensures.paused,
+            (
+              ties_kept c.args.task.now.grid.now c.args.task.now.request (g.V.CalendarView.known c.args.view.now) (g.V.CalendarView.known c.paused_block.new.view) c.args.ties.now c.in_ok-first.ensures.kept c.requires.ties,
+              (omega (arith, c.requires.cell, c.in_ok-first.ensures.cells), (c.requires.time, unseen)),
+            ),
+          ),
+        ),
+      ),
+    ))
 
 pub ask-returns-then-branch-clause-ties : goal.ask-returns-then-branch-clause-ties
 ask-returns-then-branch-clause-ties g t c =
@@ -81,10 +95,31 @@ ask-returns-then-depth-eq0-clause-ties g t c =
     c.in_ok-is_too_far.ensures.ties (g.V.CalendarView.known c.args.view.now) c.requires.ties
 
 pub ask-step_back-requires : goal.ask-step_back-requires
-ask-step_back-requires g t c κs within =
-    (omega (arith, c.decreases, c.if-depth-eq0.false), (within, (c.requires.ready, (c.requires.paused, (c.in_ok-is_too_far.ensures.ties (g.V.CalendarView.known c.args.view.now) c.requires.ties,
-    (unseen_loaded c.args.task.now.grid.now c.args.task.now.request c.args.task.now.horizon (g.V.CalendarView.known c.args.view.now) (g.V.CalendarView.size c.args.view.now) c.args.arena.now c.args.place c.args.time c.args.cell c.requires.paused.sound c.requires.unseen, (c.requires.cell, (c.requires.time,
-    (λ a agrees. paused_free c.args.task.now.grid.now c.args.task.now.request c.args.task.now.horizon (g.V.CalendarView.known c.args.view.now) (g.V.CalendarView.size c.args.view.now) c.args.arena.now c.requires.ready.bound c.requires.paused a agrees c.args.place c.args.time c.args.cell c.requires.unseen)))))))))
+ask-step_back-requires g t c κs within = (
+  omega (arith, c.decreases, c.if-depth-eq0.false),
+  (
+    within,
+    (
+      c.requires.ready,
+      (
+        c.requires.paused,
+        (
+          c.in_ok-is_too_far.ensures.ties (g.V.CalendarView.known c.args.view.now) c.requires.ties,
+          (
+            unseen_loaded c.args.task.now.grid.now c.args.task.now.request c.args.task.now.horizon (g.V.CalendarView.known c.args.view.now) (g.V.CalendarView.size c.args.view.now) c.args.arena.now c.args.place c.args.time c.args.cell c.requires.paused.sound c.requires.unseen,
+            (
+              c.requires.cell,
+              (
+                c.requires.time,
+                (λ a agrees. paused_free c.args.task.now.grid.now c.args.task.now.request c.args.task.now.horizon (g.V.CalendarView.known c.args.view.now) (g.V.CalendarView.size c.args.view.now) c.args.arena.now c.requires.ready.bound c.requires.paused a agrees c.args.place c.args.time c.args.cell c.requires.unseen),
+              ),
+            ),
+          ),
+        ),
+      ),
+    ),
+  ),
+)
 
 pub ask-returns-in-Since-clause-loaded : goal.ask-returns-in-Since-clause-loaded
 ask-returns-in-Since-clause-loaded g t c =
@@ -188,4 +223,3 @@ step_back-loop-rank-preserved g t c =
 pub step_back-returns-clause-told : goal.step_back-returns-clause-told
 step_back-returns-clause-told g t c =
     λ a agrees side n u beside time. c.loop-rank.invariant.none a agrees side (omega (arith, rank_low side, c.loop-rank-test.false)) n u beside time
-
