@@ -1,35 +1,32 @@
--- Lists of stamped entries: after a write, and after a clearing.
-use Rattle.std.proofs.Common.{◌≡◌, ℕ, zero, suc, ◌+◌, ◌<◌, ◌≤◌, List, [], ◌∷◌, length, map, replicate, set, refl, ap, ◌∙◌, arith}
-use Rattle.std.proofs.lemmas.Bool.Decides.{nat_tests}
-use Rattle.std.proofs.lemmas.Option.{same_Some, none-some}
+-- Entries with a base and a top: when the base is the top or 0, and after a write.
+use Rattle.std.proofs.Common.{◌≡◌, ℕ, ◌+◌, ◌-◌, ◌≤◌, List, [], ◌∷◌, length, map, replicate, set, refl, ap, ◌∙◌, arith}
+use Rattle.std.specs.List.{All}
 use Rattle.std.proofs.lemmas.List.{map-set}
-use Rattle.stamped_list.specs.declared.stamped.Entry.{Entry}
-use Rattle.stamped_list.specs.Stamps.{value_at, AreUpTo}
+use Rattle.std.proofs.lemmas.List.Elements.{All-head, All-tail, All-map, All-weaker}
+use Rattle.std.proofs.lemmas.List.Folds.{map_fixed}
+use Rattle.stamped_list.specs.Stamps.{number_above}
 
-pub value_now : (stamp value : ℕ) → value_at stamp (record { stamp = stamp; value = value }) ≡ value
-value_now stamp value = grind (arith, nat_tests)
+-- where the base is the top, all are read as 0
+pub zeros : (base : ℕ) (entries : List ℕ) → All (λ (entry : ℕ). entry ≤ base) entries → map (number_above base) entries ≡ replicate (length entries) 0
+zeros base [] below = refl
+zeros base (entry ∷ entries) below =
+    let here : entry ≤ base = All-head (λ (e : ℕ). e ≤ base) entry entries below in
+    let zero_here : entry - base ≡ 0 = omega arith in
+    let rest : map (number_above base) entries ≡ replicate (length entries) 0 = zeros base entries (All-tail (λ (e : ℕ). e ≤ base) entry entries below) in
+    cc
 
-pub value_before : (stamp : ℕ) (e : Entry) → e.stamp < stamp → value_at stamp e ≡ 0
-value_before stamp e before = grind (arith, nat_tests)
+-- where the base is 0, an entry is its number
+pub themselves : (entries : List ℕ) → map (number_above 0) entries ≡ entries
+themselves entries = map_fixed (number_above 0) entries (λ k d within. omega arith)
 
 -- a number is written
-pub written : (stamp : ℕ) (entries : List Entry) (place value : ℕ) → map (value_at stamp) (set entries place (record { stamp = stamp; value = value })) ≡ set (map (value_at stamp) entries) place value
-written stamp entries place value =
-    map-set (value_at stamp) entries place (record { stamp = stamp; value = value }) ∙ ap (λ (n : ℕ). set (map (value_at stamp) entries) place n) (value_now stamp value)
+pub written : (base : ℕ) (entries : List ℕ) (place value : ℕ) → map (number_above base) (set entries place (base + value)) ≡ set (map (number_above base) entries) place value
+written base entries place value =
+    let number : base + value - base ≡ value = omega arith in
+    map-set (number_above base) entries place (base + value) ∙ ap (λ (n : ℕ). set (map (number_above base) entries) place n) number
 
--- what was written before is read as 0
-pub outdated : (stamp : ℕ) (entries : List Entry) → AreUpTo stamp entries → map (value_at (stamp + 1)) entries ≡ replicate (length entries) 0
-outdated stamp [] are = refl
-outdated stamp (e ∷ entries) are =
-    let low : e.stamp ≤ stamp = are 0 e refl in
-    let rest : map (value_at (stamp + 1)) entries ≡ replicate (length entries) 0 = outdated stamp entries (λ k x at. are (suc k) x at) in
-    ap (λ (n : ℕ). n ∷ map (value_at (stamp + 1)) entries) (value_before (stamp + 1) e (omega arith)) ∙ ap (λ (xs : List ℕ). 0 ∷ xs) rest
-
-pub unwritten : (n : ℕ) → map (value_at 0) (replicate n (record { stamp = 0; value = 0 })) ≡ replicate n 0
-unwritten zero = refl
-unwritten (suc n) = ap (λ (xs : List ℕ). 0 ∷ xs) (unwritten n)
-
-pub up_to : (n : ℕ) → AreUpTo 0 (replicate n (record { stamp = 0; value = 0 }))
-up_to zero k e at = absurd (none-some e at)
-up_to (suc n) zero e at = let same : record { stamp = 0; value = 0 } ≡ e = same_Some (record { stamp = 0; value = 0 }) e at in omega (arith, ap (λ (x : Entry). x.stamp) same)
-up_to (suc n) (suc k) e at = up_to n k e at
+-- the top comes down with the entries
+pub top_comes_down : (base top : ℕ) (entries : List ℕ) → All (λ (entry : ℕ). entry ≤ top) entries → All (λ (entry : ℕ). entry ≤ top - base) (map (number_above base) entries)
+top_comes_down base top entries below =
+    All-map (λ (e : ℕ). e ≤ top - base) (number_above base) entries
+    (All-weaker (λ (e : ℕ). e ≤ top) (λ (e : ℕ). e - base ≤ top - base) (λ e at_most. omega arith) entries below)

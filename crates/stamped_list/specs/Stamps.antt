@@ -1,11 +1,12 @@
--- What stamped entries are seen as.
-use Rattle.std.specs.Prelude.{◌≡◌, ℕ, ◌≤◌, List, Some, slice_get, nat_eq, if◌then◌else◌}
-use Rattle.stamped_list.specs.declared.stamped.Entry.{Entry}
+-- What entries are seen as: a number stands as its sum with a base.
+use Rattle.std.specs.Prelude.{ℕ, ◌-◌, ◌≤◌, List}
+use Rattle.std.specs.List.{All}
 
--- the entry's number, where it was written at that stamp, else 0
-abbrev pub value_at : ℕ → Entry → ℕ
-value_at stamp e = if nat_eq e.stamp stamp then e.value else 0
+-- how far an entry is above the base, or 0 where it isn't
+abbrev pub number_above : ℕ → ℕ → ℕ
+number_above base entry = entry - base
 
--- no entry has a greater stamp
-abbrev pub AreUpTo : ℕ → List Entry → Type 0
-AreUpTo stamp entries = (k : ℕ) (e : Entry) → slice_get entries k ≡ Some e → e.stamp ≤ stamp
+-- neither the base nor an entry is above the top
+pub record IsTop (top base : ℕ) (entries : List ℕ) : Type 0 where
+  pub covers_base : base ≤ top
+  pub covers_entries : All (λ (entry : ℕ). entry ≤ top) entries

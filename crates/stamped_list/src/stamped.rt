@@ -1,35 +1,25 @@
-ghost use Rattle.std.specs.Prelude.{◌≡◌, ◌<◌, Some, length, slice_get, slice_set, replicate, IfOk};
+ghost use Rattle.std.specs.Prelude.{◌≡◌, ◌<◌, ℕ, List, Some, length, map, slice_get, slice_set, replicate, IfOk};
+ghost use Rattle.stamped_list.specs.Stamps.{number_above, IsTop};
 
 use std::alloc::{AllocError, Global};
 use std::marker::Model;
 
-// A number, and the stamp at which it was written.
-#[derive(Clone, Copy)]
-struct Entry {
-    stamp: u32,
-    value: u32,
-}
-
-// What was never written.
-const UNWRITTEN: Entry = Entry { stamp: 0, value: 0 };
-
 /// A list of numbers of a fixed length. They are seen as a list; a new one has zeros alone.
 #[derive(Drop)]
 pub struct StampedList {
-    entries: Vec<Entry>,
-    // The number of clearings since the entries were last written over. No entry has a greater stamp.
-    stamp: u32,
+    // A number stands as its sum with `base`. An entry that is not above `base` is read as 0.
+    entries: Vec<u32>,
+    base: u32,
+    // At least `base`, and no entry is greater.
+    top: u32,
 }
 
 impl Model for StampedList {
-    ghost use Rattle.std.specs.Prelude.{List, ℕ, map};
-    ghost use Rattle.stamped_list.specs.Stamps.{value_at, AreUpTo};
-
     ghost Value = { List ℕ };
 
-    ghost view = { λ s. map (value_at s.stamp) s.entries.items };
+    ghost view = { λ s. map (number_above s.base) s.entries.items };
 
-    ghost invariant = { λ s. AreUpTo s.stamp s.entries.items };
+    ghost invariant = { λ s. IsTop s.top s.base s.entries.items };
 }
 
 impl StampedList {
@@ -38,8 +28,9 @@ impl StampedList {
         ensures { IfOk result (λ s. s ≡ replicate count 0) }
     {
         Ok(StampedList {
-            entries: vec![in alloc; UNWRITTEN; count]?,
-            stamp: 0,
+            entries: vec![in alloc; 0; count]?,
+            base: 0,
+            top: 0,
         })
     }
 
@@ -51,38 +42,47 @@ impl StampedList {
     }
 
     /// The number at a place.
+    #[inline(always)]
     pub fn get(&self, place: usize) -> u32
         requires { place < length self.now }
         ensures { slice_get self.now place ≡ Some result }
     {
-        let entry = self.entries[place];
-        if entry.stamp == self.stamp {
-            entry.value
-        } else {
-            0
-        }
+        self.entries[place].saturating_sub(self.base)
     }
 
-    /// Writes the number at a place.
+    /// Writes the number at a place. It takes the same time for a list of any length, but the whole list is written over
+    /// each time that the greatest numbers between clearings have added up to 2 ^ 32.
+    #[inline(always)]
     pub fn set(&mut self, place: usize, value: u32)
         requires { place < length self.old }
         ensures { self.new ≡ slice_set self.old place value }
     {
-        self.entries[place] = Entry {
-            stamp: self.stamp,
-            value,
-        };
+        if value > u32::MAX - self.base {
+            // Their sum has no room. The base goes back to 0, and each entry to its number.
+            subtract_from_all(self.entries.as_mut_slice(), self.base);
+            self.top -= self.base;
+            self.base = 0;
+        }
+        let entry = self.base + value;
+        self.entries[place] = entry;
+        self.top = self.top.max(entry);
     }
 
-    /// All numbers are 0. It takes the same time for a list of any length, but for one clearing of 2 ^ 32.
+    /// All numbers are 0. It takes the same time for a list of any length.
     pub fn clear(&mut self)
         ensures { self.new ≡ replicate (length self.old) 0 }
     {
-        if self.stamp < u32::MAX {
-            self.stamp += 1;
-            return;
-        }
-        self.entries.fill(UNWRITTEN);
-        self.stamp = 0;
+        self.base = self.top;
+    }
+}
+
+// Makes each entry the number that it is above the base.
+#[cold]
+#[inline(never)]
+fn subtract_from_all(entries: &mut [u32], base: u32)
+    ensures { entries.new ≡ map (number_above base) entries.old }
+{
+    for entry in entries.iter_mut() {
+        *entry = entry.saturating_sub(base);
     }
 }
