@@ -1,25 +1,25 @@
 -- Distances that are asked for one by one.
-use Rattle.std.specs.Prelude.{◌≡◌, ℕ, ◌+◌, ◌*◌, ◌<◌, ◌≤◌, [], ◌∷◌, ◌++◌, Option, Some, None, length}
+use Rattle.std.specs.Prelude.{◌≡◌, ℕ, ◌+◌, ◌*◌, ◌<◌, ◌≤◌, [], Option, Some, None, length, slice_get}
 use Rattle.fleet_base.specs.declared.grid.Cell.{Cell}
 use Rattle.fleet_base.specs.Terrain.{Terrain}
 use Rattle.static_distance.specs.declared.distances.Distances.{Distances}
+use Rattle.static_distance.specs.declared.span.Span.{Span}
 use Rattle.static_distance.specs.Distance.{IsWay, IsDistance}
-use Rattle.static_distance.specs.Levels.{Levels, AreLevels, uncounted}
+use Rattle.static_distance.specs.Levels.{uncounted}
+use Rattle.static_distance.specs.Spreading.{IsFlood}
+use Rattle.static_distance.specs.Spans.{AreSpans, KeepsWaiting, Stands, flood_of}
 
 -- how many cells the grids have on which moves are counted
 abbrev pub room : Distances → ℕ
 room d = length d.marks
 
--- how many cells wait
+-- how many spans have cells that wait
 abbrev pub waiting : Distances → ℕ
-waiting d = length d.here.items + length d.next.items
+waiting d = length d.here.spans.items + length d.next.spans.items
 
 -- a bound of what is left to do
 abbrev pub work : Distances → ℕ
-work d = 4 * uncounted d.marks + waiting d
-
-abbrev pub levels_of : Distances → Levels
-levels_of d = record { goal = d.goal; toward = d.toward; level = d.level; marks = d.marks; here = d.here.items; next = d.next.items }
+work d = 6 * uncounted d.marks + waiting d
 
 -- all but what is counted stays the same
 pub record KeepsAim (old new : Distances) : Type 0 where
@@ -27,28 +27,37 @@ pub record KeepsAim (old new : Distances) : Type 0 where
   pub toward : new.toward ≡ old.toward
   pub room : length new.marks ≡ length old.marks
 
+-- there is a word for so many spans
+pub record AreFitting (count : ℕ) (d : Distances) : Type 0 where
+  pub known : length d.known ≡ count
+  pub free : length d.free.items ≡ count
+  pub here : length d.here.words.items ≡ count
+  pub next : length d.next.words.items ≡ count
+
 -- the moves to the goal are counted on that grid
 pub record IsAimed (g : Terrain) (d : Distances) : Type 0 where
-  pub room_is : length d.marks ≡ length g.cells
   pub near : (d.toward.column < 2048) × (d.toward.row < 2048)
   pub bounded : d.level + 2 * work d ≤ 16777216
-  pub levels : (x : ℕ) → AreLevels g (levels_of d) x
+  pub spans : AreSpans g d
+  pub flood : IsFlood g (flood_of g d)
 
 -- the static distance of c, or none where no way leads from it to the goal
 abbrev pub AnswersDistance : Terrain → Cell → Cell → Option ℕ → Type 0
 AnswersDistance g goal c (Some d) = IsDistance g goal c d
 AnswersDistance g goal c None = (k : ℕ) → ¬ (IsWay g goal c k)
 
--- a cell that waited on this level is taken, maybe after the level has risen
-pub record TakesWaiting (old new : Distances) (c : Cell) : Type 0 where
-  pub aim : KeepsAim old new
-  pub marks : new.marks ≡ old.marks
-  pub risen : new.level ≤ old.level + 2
-  pub one_less : waiting new + 1 ≡ waiting old
-  pub levels : (g : Terrain) → ((x : ℕ) → AreLevels g (levels_of old) x) → (x : ℕ) → AreLevels g (record (levels_of new) { here = new.here.items ++ c ∷ [] }) x
+-- the span was looked at, and no other cells wait than before
+pub record HasLooked (g : Terrain) (span : Span) (old new : Distances) : Type 0 where
+  pub spans : AreSpans g new
+  pub known : slice_get new.known span.number ≡ Some 1
+  pub kept : KeepsWaiting g old new
+  pub here_only : (c : Cell) → Stands g new.known new.here.words.items c → Stands g old.known old.here.words.items c
+  pub next_only : (c : Cell) → Stands g new.known new.next.words.items c → Stands g old.known old.next.words.items c
+  pub here_spans : new.here.spans ≡ old.here.spans
+  pub next_spans : new.next.spans ≡ old.next.spans
 
 -- nothing waits, and nothing has changed
 pub record HasNoMore (old new : Distances) : Type 0 where
-  pub same : levels_of new ≡ levels_of old
-  pub here : old.here.items ≡ []
-  pub next : old.next.items ≡ []
+  pub same : new ≡ old
+  pub here : old.here.spans.items ≡ []
+  pub next : old.next.spans.items ≡ []

@@ -9,6 +9,7 @@ use Rattle.static_distance.specs.declared.place.Place.{Place}
 use Rattle.static_distance.specs.declared.distances.Distances.{Distances}
 use Rattle.static_distance.specs.Levels.{IsCounted, IsPlaceOf, apart, uncounted}
 use Rattle.static_distance.specs.Spreading.{Flood}
+use Rattle.static_distance.specs.Waiting.{IsListed}
 
 -- how many spans a row has
 abbrev pub stride : Terrain → ℕ
@@ -38,10 +39,6 @@ pub record Stands (g : Terrain) (known words : List ℕ) (c : Cell) : Type 0 whe
   pub word : ℕ
   pub at : slice_get words span.number ≡ Some word
   pub holds : Holds g span word c
-
--- the span of that number is in the list
-abbrev pub IsListed : List Span → ℕ → Type 0
-IsListed spans n = (j : ℕ) × (s : Span) × (slice_get spans j ≡ Some s) × (s.number ≡ n)
 
 -- Each list has spans that were looked at, among them all whose word has a cell.
 pub record AreListed (g : Terrain) (known words : List ℕ) (spans : List Span) : Type 0 where

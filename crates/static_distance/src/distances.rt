@@ -1,8 +1,12 @@
-ghost use Rattle.std.specs.Prelude.{◌≡◌, ℕ, ◌+◌, ◌*◌, ◌<◌, ◌≤◌, [], ◌∷◌, ◌++◌, length, Some, IfOk, OnOk, IfSome, IfNone, slice_get};
+ghost use Rattle.std.specs.Prelude.{◌≡◌, ◌≢◌, ℕ, ◌+◌, ◌*◌, ◌<◌, ◌≤◌, [], ◌∷◌, ◌++◌, length, Some, IfOk, OnOk, IfSome, IfNone, slice_get};
 ghost use Rattle.std.specs.Bool.{OnTrue, OnFalse};
 
-use crate::place::{Place, is_closer, moves_between, neighbour_at, place_of};
-use fleet_base::{Cell, Grid, Memory, Side};
+use crate::marking::mark_all;
+use crate::place::{Place, moves_between, place_of};
+use crate::span::{Span, cells_of, span_at, stride};
+use crate::waiting::Waiting;
+use fleet_base::{Cell, Grid, Memory};
+use row_words::{below, both, filled, is_set, lowered, open_places, raised, single, without};
 use stamped_list::StampedList;
 use std::alloc::Global;
 
@@ -10,34 +14,65 @@ use std::alloc::Global;
 /// for, first for cells on the way to another cell.
 #[derive(Drop)]
 pub struct Distances {
+    alloc: Global,
     goal: Cell,
     toward: Place,
     // 1 plus the moves of each cell that is counted, else 0.
     marks: StampedList,
+    // By the number of a span: 1 where it was looked at since the last aim, and then its cells that are open and not counted.
+    known: StampedList,
+    free: Vec<u64>,
     // The moves of the cells of `here` to the goal, and those to `toward` if all cells were open, add up to `level`;
     // those of `next` to `level + 2`. Cells may stand in them that were counted meanwhile.
     level: u32,
-    here: Vec<Cell>,
-    next: Vec<Cell>,
+    here: Waiting,
+    next: Waiting,
 }
 
 impl Distances {
     ghost use Rattle.fleet_base.specs.Terrain.{Terrain};
-    ghost use Rattle.static_distance.specs.Levels.{IsPlaceOf, AreLevels, IsExpanding, HasEntered};
-    ghost use Rattle.static_distance.specs.Aim.{room, waiting, work, levels_of, KeepsAim, IsAimed, AnswersDistance, TakesWaiting, HasNoMore};
+    ghost use Rattle.fleet_base.specs.declared.grid.Cell.{Cell as ACell};
+    ghost use Rattle.row_words.specs.Words.{IsSet};
+    ghost use Rattle.fleet_base.specs.declared.grid.Side.TheVariants.{Up, Left, Right, Down};
+    ghost use Rattle.static_distance.specs.Levels.{IsPlaceOf, apart, uncounted};
+    ghost use Rattle.static_distance.specs.Spreading.{IsFlood};
+    ghost use Rattle.static_distance.specs.Spans.{stride, IsSpan, Holds, IsFree, AreSpans, flood_of, flood_with, HasEntered, HasSpreadTo, HasCounted, IsShut};
+    ghost use Rattle.static_distance.specs.Aim.{room, waiting, work, KeepsAim, IsAimed, AnswersDistance, AreFitting, HasLooked, HasNoMore};
 
     /// For grids of that many cells. Nothing is counted before it is aimed at a goal.
     pub fn new(alloc: Global, cells: usize) -> Result<Distances, Memory>
         ensures { IfOk result (λ d. room d ≡ cells) }
     {
         Ok(Distances {
+            alloc,
             goal: Cell(0),
             toward: Place { column: 0, row: 0 },
             marks: StampedList::new(alloc, cells)?,
+            known: StampedList::new(alloc, 0)?,
+            free: Vec::new(alloc),
             level: 0,
-            here: Vec::new(alloc),
-            next: Vec::new(alloc),
+            here: Waiting::new(alloc, 0)?,
+            next: Waiting::new(alloc, 0)?,
         })
+    }
+
+    // Room for so many spans. It is there already unless the grids have other sizes.
+    fn fit(&mut self, count: usize) -> Result<(), Memory>
+        ensures fit { OnOk result (AreFitting count self.new) }
+        ensures marks { self.new.marks ≡ self.old.marks }
+    {
+        if self.known.len() == count
+            && self.free.len() == count
+            && self.here.words.len() == count
+            && self.next.words.len() == count
+        {
+            return Ok(());
+        }
+        self.known = StampedList::new(self.alloc, count)?;
+        self.free = vec![in self.alloc; 0; count]?;
+        self.here = Waiting::new(self.alloc, count)?;
+        self.next = Waiting::new(self.alloc, count)?;
+        Ok(())
     }
 
     /// From now on moves to that goal are counted. It costs least where the cells that are asked for lie toward the other
@@ -51,14 +86,19 @@ impl Distances {
         ensures room { room self.new ≡ room self.old }
     {
         let _limits = grid.cells();
+        self.fit((grid.height() * stride(grid)) as usize)?;
+        let place = place_of(grid, goal);
         self.goal = goal;
         self.toward = place_of(grid, toward);
-        self.level = moves_between(place_of(grid, goal), self.toward);
+        self.level = moves_between(place, self.toward);
         self.marks.clear();
-        self.here.clear();
-        self.next.clear();
+        self.known.clear();
+        self.here.spans.clear();
+        self.next.spans.clear();
         if grid.is_open(goal) {
-            self.here.push(goal)?;
+            let span = span_at(grid, goal, place);
+            self.look_at(grid, span);
+            self.here.add(span, single(place.column - span.column))?;
         }
         Ok(())
     }
@@ -83,7 +123,7 @@ impl Distances {
         Ok(Some(self.marks.get(cell.0 as usize) - 1))
     }
 
-    // Counts one cell more, or finds that a cell that waits was counted before. False where none waits.
+    // Counts the waiting cells of one span more, or finds that they were counted before. False where none waits.
     fn advance(&mut self, grid: &Grid) -> Result<bool, Memory>
         requires { IsAimed grid.now self.old }
         ensures aim { KeepsAim self.old self.new }
@@ -91,22 +131,15 @@ impl Distances {
         ensures more { IfOk result (λ went. OnTrue went (work self.new < work self.old)) }
         ensures none { IfOk result (λ went. OnFalse went (HasNoMore self.old self.new)) }
     {
-        let Some(cell) = self.take() else {
+        self.rise();
+        let Some(span) = self.here.spans.pop() else {
             return Ok(false);
         };
-        self.expand(grid, cell)?;
+        let number = span.number as usize;
+        let seeds = self.here.words[number];
+        self.here.words[number] = 0;
+        self.spread(grid, span, seeds)?;
         Ok(true)
-    }
-
-    // Takes a cell of this level; where none waits, of the next one.
-    fn take(&mut self) -> Option<Cell>
-        requires { self.old.level ≤ 16777216 }
-        ensures some { IfSome result (λ c. TakesWaiting self.old self.new c) }
-        ensures none { IfNone result (HasNoMore self.old self.new) }
-    {
-        self.rise();
-        let cell = self.here.pop()?;
-        Some(cell)
     }
 
     // Where no cell of this level waits, the next one is this level.
@@ -116,70 +149,191 @@ impl Distances {
         ensures marks { self.new.marks ≡ self.old.marks }
         ensures risen { self.new.level ≤ self.old.level + 2 }
         ensures count { waiting self.new ≡ waiting self.old }
-        ensures levels { (g : Terrain) → ((x : ℕ) → AreLevels g (levels_of self.old) x) → (x : ℕ) → AreLevels g (levels_of self.new) x }
-        ensures none { self.new.here.items ≡ [] → HasNoMore self.old self.new }
+        ensures spans { (g : Terrain) → AreSpans g self.old → AreSpans g self.new }
+        ensures flood { (g : Terrain) → AreSpans g self.old → IsFlood g (flood_of g self.old) → IsFlood g (flood_of g self.new) }
+        ensures none { self.new.here.spans.items ≡ [] → HasNoMore self.old self.new }
     {
-        if !self.here.is_empty() {
+        if !self.here.spans.is_empty() {
             return;
         }
-        if self.next.is_empty() {
+        if self.next.spans.is_empty() {
             return;
         }
         std::mem::swap(&mut self.here, &mut self.next);
         self.level += 2;
     }
 
-    // Counts the cell, which waited on this level, unless it was counted before.
-    fn expand(&mut self, grid: &Grid, cell: Cell) -> Result<(), Memory>
-        requires cell { cell.0 < length grid.now.cells }
-        requires room { length self.old.marks ≡ length grid.now.cells }
-        requires near { (self.old.toward.column < 2048) × (self.old.toward.row < 2048) }
-        requires level { self.old.level ≤ 16777218 }
-        requires levels { (x : ℕ) → AreLevels grid.now (record (levels_of self.old) { here = self.old.here.items ++ cell ∷ [] }) x }
-        ensures aim { KeepsAim self.old self.new }
-        ensures level { self.new.level ≡ self.old.level }
-        ensures levels { OnOk result ((x : ℕ) → AreLevels grid.now (levels_of self.new) x) }
-        ensures work { OnOk result (work self.new ≤ work self.old) }
+    // Looks at the cells of a span, unless that was done since the last aim.
+    #[inline(always)]
+    fn look_at(&mut self, grid: &Grid, span: Span)
+        requires span { IsSpan grid.now span }
+        requires spans { AreSpans grid.now self.old }
+        ensures looked { HasLooked grid.now span self.old self.new }
     {
-        if self.marks.get(cell.0 as usize) != 0 {
+        let number = span.number as usize;
+        if self.known.get(number) != 0 {
+            return;
+        }
+        self.free[number] = open_places(cells_of(grid, span));
+        self.here.words[number] = 0;
+        self.next.words[number] = 0;
+        self.known.set(number, 1);
+    }
+
+    // Of the cells that the word has in the span, the free ones wait: on this level where they are closer.
+    #[inline(always)]
+    fn enter(&mut self, grid: &Grid, span: Span, word: u64, closer: bool) -> Result<(), Memory>
+        requires span { IsSpan grid.now span }
+        requires spans { AreSpans grid.now self.old }
+        ensures aim { KeepsAim self.old self.new }
+        ensures marks { self.new.marks ≡ self.old.marks }
+        ensures spans { OnOk result (AreSpans grid.now self.new) }
+        ensures count { OnOk result (waiting self.new ≤ waiting self.old + 1) }
+        ensures entered { OnOk result (HasEntered grid.now span word closer self.old self.new) }
+    {
+        self.look_at(grid, span);
+        let entered = both(word, self.free[span.number as usize]);
+        if entered == 0 {
             return Ok(());
         }
-        let place = place_of(grid, cell);
-        let moves = self.level - moves_between(place, self.toward);
-        self.marks.set(cell.0 as usize, moves + 1);
-        self.enter(grid, cell, place, Side::Up)?;
-        self.enter(grid, cell, place, Side::Left)?;
-        self.enter(grid, cell, place, Side::Right)?;
-        self.enter(grid, cell, place, Side::Down)?;
+        if closer {
+            self.here.add(span, entered)?;
+        } else {
+            self.next.add(span, entered)?;
+        }
         Ok(())
     }
 
-    // The cell on that side of a cell that was just counted waits, where it is open and isn't counted.
-    #[inline(always)]
-    fn enter(&mut self, grid: &Grid, cell: Cell, place: Place, side: Side) -> Result<(), Memory>
-        requires cell { cell.0 < length grid.now.cells }
-        requires place { IsPlaceOf grid.now cell place }
-        requires room { length self.old.marks ≡ length grid.now.cells }
+    // Counts the cells that the seeds have in the span, where they are free, and those to which these lead in the row on this level.
+    fn spread(&mut self, grid: &Grid, span: Span, seeds: u64) -> Result<(), Memory>
+        requires span { IsSpan grid.now span }
+        requires known { slice_get self.old.known span.number ≡ Some 1 }
+        requires near { (self.old.toward.column < 2048) × (self.old.toward.row < 2048) }
+        requires spans { AreSpans grid.now self.old }
+        requires flood { IsFlood grid.now (flood_with grid.now self.old span seeds) }
         ensures aim { KeepsAim self.old self.new }
         ensures level { self.new.level ≡ self.old.level }
-        ensures marks { self.new.marks ≡ self.old.marks }
-        ensures count { OnOk result (waiting self.new ≤ waiting self.old + 1) }
-        ensures entered { OnOk result ((k : ℕ) → IsExpanding grid.now cell k (levels_of self.old) → HasEntered grid.now side cell k (levels_of self.old) (levels_of self.new)) }
+        ensures spans { OnOk result (AreSpans grid.now self.new) }
+        ensures flood { OnOk result (IsFlood grid.now (flood_of grid.now self.new)) }
+        ensures work { OnOk result (work self.new ≤ work self.old) }
     {
-        let Some(next) = neighbour_at(grid, cell, place, side) else {
-            return Ok(());
-        };
-        if !grid.is_open(next) {
-            return Ok(());
-        }
-        if self.marks.get(next.0 as usize) != 0 {
+        let free = self.free[span.number as usize];
+        let batch = filled(seeds, free, self.rising(span), self.falling(span));
+        if batch == 0 {
             return Ok(());
         }
-        if is_closer(place, self.toward, side) {
-            self.here.push(next)?;
-            return Ok(());
-        }
-        self.next.push(next)?;
+        self.count(grid, span, batch);
+        self.spread_up(grid, span, batch)?;
+        self.spread_down(grid, span, batch)?;
+        self.spread_left(grid, span, batch)?;
+        self.spread_right(grid, span, batch)?;
         Ok(())
+    }
+
+    // The places of a span from which the next greater column is closer.
+    #[inline(always)]
+    fn rising(&self, span: Span) -> u64
+        ensures { (i : ℕ) → IsSet result i ↔ ((i < 64) × (span.column + i < self.now.toward.column)) }
+    {
+        below(self.toward.column.saturating_sub(span.column))
+    }
+
+    // The places of a span from which the next lesser column is closer.
+    #[inline(always)]
+    fn falling(&self, span: Span) -> u64
+        requires { self.now.toward.column < 2048 }
+        ensures { (i : ℕ) → IsSet result i ↔ ((i < 64) × (self.now.toward.column < span.column + i)) }
+    {
+        without(u64::MAX, below((self.toward.column + 1).saturating_sub(span.column)))
+    }
+
+    // Counts all cells that the word has in the span.
+    #[inline(always)]
+    fn count(&mut self, grid: &Grid, span: Span, word: u64)
+        requires span { IsSpan grid.now span }
+        requires near { (self.old.toward.column < 2048) × (self.old.toward.row < 2048) }
+        requires known { slice_get self.old.known span.number ≡ Some 1 }
+        requires spans { AreSpans grid.now self.old }
+        requires some { word ≢ 0 }
+        requires free { (i : ℕ) → IsSet word i → (w : ℕ) → slice_get self.old.free.items span.number ≡ Some w → IsSet w i }
+        requires on_level { (c : ACell) → Holds grid.now span word c → apart grid.now self.old.toward c ≤ self.old.level }
+        ensures counted { HasCounted grid.now span word self.old self.new }
+        ensures spans { AreSpans grid.now self.new }
+        ensures less { uncounted self.new.marks + 1 ≤ uncounted self.old.marks }
+    {
+        let number = span.number as usize;
+        let reach = self.level - span.row.abs_diff(self.toward.row);
+        mark_all(&mut self.marks, grid.width() * span.row + span.column, word, span.column, self.toward.column, reach);
+        self.free[number] = without(self.free[number], word);
+    }
+
+    fn spread_up(&mut self, grid: &Grid, span: Span, word: u64) -> Result<(), Memory>
+        requires span { IsSpan grid.now span }
+        requires spans { AreSpans grid.now self.old }
+        ensures spans { OnOk result (AreSpans grid.now self.new) }
+        ensures count { OnOk result (waiting self.new ≤ waiting self.old + 1) }
+        ensures aim { KeepsAim self.old self.new }
+        ensures marks { self.new.marks ≡ self.old.marks }
+        ensures spread { OnOk result (HasSpreadTo grid.now Up span word self.old self.new) }
+    {
+        if span.row == 0 {
+            return Ok(());
+        }
+        let above = Span { number: span.number - stride(grid), row: span.row - 1, column: span.column };
+        self.enter(grid, above, word, self.toward.row < span.row)
+    }
+
+    fn spread_down(&mut self, grid: &Grid, span: Span, word: u64) -> Result<(), Memory>
+        requires span { IsSpan grid.now span }
+        requires spans { AreSpans grid.now self.old }
+        ensures spans { OnOk result (AreSpans grid.now self.new) }
+        ensures count { OnOk result (waiting self.new ≤ waiting self.old + 1) }
+        ensures aim { KeepsAim self.old self.new }
+        ensures marks { self.new.marks ≡ self.old.marks }
+        ensures spread { OnOk result (HasSpreadTo grid.now Down span word self.old self.new) }
+    {
+        if span.row + 1 >= grid.height() {
+            return Ok(());
+        }
+        let under = Span { number: span.number + stride(grid), row: span.row + 1, column: span.column };
+        self.enter(grid, under, word, span.row < self.toward.row)
+    }
+
+    fn spread_left(&mut self, grid: &Grid, span: Span, word: u64) -> Result<(), Memory>
+        requires span { IsSpan grid.now span }
+        requires spans { AreSpans grid.now self.old }
+        requires shut { IsShut grid.now Left span word self.old }
+        ensures spans { OnOk result (AreSpans grid.now self.new) }
+        ensures count { OnOk result (waiting self.new ≤ waiting self.old + 2) }
+        ensures aim { KeepsAim self.old self.new }
+        ensures marks { self.new.marks ≡ self.old.marks }
+        ensures spread { OnOk result (HasSpreadTo grid.now Left span word self.old self.new) }
+    {
+        let away = lowered(without(word, self.falling(span)));
+        self.enter(grid, span, away, false)?;
+        if span.column == 0 || !is_set(word, 0) {
+            return Ok(());
+        }
+        let before = Span { number: span.number - 1, row: span.row, column: span.column - 64 };
+        self.enter(grid, before, single(63), self.toward.column < span.column)
+    }
+
+    fn spread_right(&mut self, grid: &Grid, span: Span, word: u64) -> Result<(), Memory>
+        requires span { IsSpan grid.now span }
+        requires spans { AreSpans grid.now self.old }
+        requires shut { IsShut grid.now Right span word self.old }
+        ensures spans { OnOk result (AreSpans grid.now self.new) }
+        ensures count { OnOk result (waiting self.new ≤ waiting self.old + 2) }
+        ensures aim { KeepsAim self.old self.new }
+        ensures marks { self.new.marks ≡ self.old.marks }
+        ensures spread { OnOk result (HasSpreadTo grid.now Right span word self.old self.new) }
+    {
+        let away = raised(without(word, self.rising(span)));
+        self.enter(grid, span, away, false)?;
+        if span.column + 64 >= grid.width() || !is_set(word, 63) {
+            return Ok(());
+        }
+        let after = Span { number: span.number + 1, row: span.row, column: span.column + 64 };
+        self.enter(grid, after, single(0), span.column + 63 < self.toward.column)
     }
 }

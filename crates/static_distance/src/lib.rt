@@ -4,9 +4,12 @@
 #![tactic(auto)]
 
 mod distances;
+mod marking;
 mod place;
+mod span;
 #[cfg(test)]
 mod tests;
+mod waiting;
 
 pub use distances::Distances;
 pub use place::{Place, neighbour_at, place_of};

@@ -1,4 +1,5 @@
-ghost use Rattle.std.specs.Prelude.{◌≡◌, ◌+◌, ◌*◌, ◌<◌, length};
+ghost use Rattle.std.specs.Prelude.{◌≡◌, ℕ, ◌+◌, ◌-◌, ◌*◌, ◌<◌, ◌≤◌, Bool, Some, length, slice_get};
+ghost use Rattle.fleet_base.specs.declared.grid.Cell.{Cell as ACell};
 ghost use Rattle.static_distance.specs.Levels.{IsPlaceOf};
 ghost use Rattle.static_distance.specs.Spans.{stride, IsSpan, IsCellAt};
 
@@ -37,4 +38,17 @@ pub(crate) fn span_at(grid: &Grid, cell: Cell, place: Place) -> Span
         row: place.row,
         column: 64 * part,
     }
+}
+
+// What the grid has for the cells of the span.
+#[inline(always)]
+pub(crate) fn cells_of(grid: &Grid, span: Span) -> &[bool]
+    requires span { IsSpan grid.now span }
+    ensures few { length result.now ≤ 64 }
+    ensures values { (i : ℕ) (v : Bool) → slice_get result.now i ≡ Some v → (c : ACell) × IsCellAt grid.now span i c × (slice_get grid.now.cells c.0 ≡ Some v) }
+    ensures all { (i : ℕ) (c : ACell) → IsCellAt grid.now span i c → slice_get result.now i ≡ slice_get grid.now.cells c.0 }
+{
+    let count = (grid.width() - span.column).min(64) as usize;
+    let first = (grid.width() * span.row + span.column) as usize;
+    &grid.cells()[first..first + count]
 }
