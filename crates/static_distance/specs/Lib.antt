@@ -1,3 +1,4 @@
 pub mod Distance
 pub mod Levels
+pub mod Spreading
 pub mod Aim
