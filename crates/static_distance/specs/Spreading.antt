@@ -42,7 +42,7 @@ pub record IsFlood (g : Terrain) (f : Flood) : Type 0 where
   pub begun : IsOpen g f.goal → IsKnown g f f.goal 0
   pub led : (c : Cell) (k : ℕ) → IsCounted f.marks c k → (side : Side) → HasLed g f c k side
 
--- k moves were counted for the cell, whatever k is
+-- the cell was counted
 abbrev pub HasCount : List ℕ → Cell → Type 0
 HasCount marks c = (k : ℕ) × IsCounted marks c k
 
