@@ -1,3 +1,4 @@
 pub mod Ways
 pub mod Places
 pub mod LevelLemmas
+pub mod SpreadLemmas
