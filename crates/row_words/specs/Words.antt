@@ -1,5 +1,5 @@
 -- The places of a word, and where a flow over them goes.
-use Rattle.std.specs.Prelude.{◌≡◌, ℕ, ◌+◌, ◌⊎◌}
+use Rattle.std.specs.Prelude.{◌≡◌, ℕ, ◌+◌, ◌⊎◌, ◌↔◌}
 use Rattle.std.specs.Int.{bit_at}
 
 -- the place i of the word is set
@@ -21,3 +21,7 @@ pub record IsFilled (seeds free up down word : ℕ) : Type 0 where
 -- the place is next to one of the word's that lets the flow go there
 abbrev pub LeadsTo : ℕ → ℕ → ℕ → ℕ → Type 0
 LeadsTo word up down i = ((j : ℕ) × (i ≡ j + 1) × IsSet word j × IsSet up j) ⊎ (IsSet word (i + 1) × IsSet down (i + 1))
+
+-- `more` has the free places to which it flows from those of the word, and which the word doesn't have
+abbrev pub AreNext : ℕ → ℕ → ℕ → ℕ → ℕ → Type 0
+AreNext word free up down more = (i : ℕ) → IsSet more i ↔ (LeadsTo word up down i × IsSet free i × ¬ (IsSet word i))

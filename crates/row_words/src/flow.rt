@@ -1,12 +1,11 @@
-ghost use Rattle.std.specs.Prelude.{◌≡◌, ℕ, ◌+◌, ◌⊎◌, ◌↔◌};
-ghost use Rattle.row_words.specs.Words.{IsSet, IsFilled, LeadsTo};
+ghost use Rattle.row_words.specs.Words.{AreNext, IsFilled};
 
 use crate::places::{both, either, lowered, raised, without};
 
 // The free places next to the word's that it flows to and doesn't have yet.
 #[inline(always)]
 fn next_to(word: u64, free: u64, up: u64, down: u64) -> u64
-    ensures { (i : ℕ) → IsSet result i ↔ (LeadsTo word up down i × IsSet free i × ¬ (IsSet word i)) }
+    ensures { AreNext word free up down result }
 {
     let risen = raised(both(word, up));
     let fallen = lowered(both(word, down));
