@@ -1,4 +1,4 @@
-ghost use Rattle.std.specs.Prelude.{◌≡◌, ◌≢◌, ℕ, ◌+◌, ◌*◌, ◌<◌, ◌≤◌, [], ◌∷◌, ◌++◌, length, Some, IfOk, OnOk, IfSome, IfNone, slice_get};
+ghost use Rattle.std.specs.Prelude.{◌≡◌, ◌≢◌, ℕ, ◌+◌, ◌*◌, ◌<◌, ◌≤◌, ◌↔◌, [], ◌∷◌, ◌++◌, length, Some, IfOk, OnOk, IfSome, IfNone, slice_get};
 ghost use Rattle.std.specs.Bool.{OnTrue, OnFalse};
 
 use crate::marking::mark_all;
@@ -292,6 +292,7 @@ impl Distances {
         ensures marks { self.new.marks ≡ self.old.marks }
         ensures spread { OnOk result (HasSpreadTo grid.now Down span word self.old self.new) }
     {
+        let _limits = grid.cells();
         if span.row + 1 >= grid.height() {
             return Ok(());
         }
@@ -302,6 +303,7 @@ impl Distances {
     fn spread_left(&mut self, grid: &Grid, span: Span, word: u64) -> Result<(), Memory>
         requires span { IsSpan grid.now span }
         requires spans { AreSpans grid.now self.old }
+        requires near { self.old.toward.column < 2048 }
         requires shut { IsShut grid.now Left span word self.old }
         ensures spans { OnOk result (AreSpans grid.now self.new) }
         ensures count { OnOk result (waiting self.new ≤ waiting self.old + 2) }
@@ -330,6 +332,7 @@ impl Distances {
     {
         let away = raised(without(word, self.rising(span)));
         self.enter(grid, span, away, false)?;
+        let _limits = grid.cells();
         if span.column + 64 >= grid.width() || !is_set(word, 63) {
             return Ok(());
         }

@@ -48,7 +48,8 @@ pub(crate) fn cells_of(grid: &Grid, span: Span) -> &[bool]
     ensures values { (i : ℕ) (v : Bool) → slice_get result.now i ≡ Some v → (c : ACell) × IsCellAt grid.now span i c × (slice_get grid.now.cells c.0 ≡ Some v) }
     ensures all { (i : ℕ) (c : ACell) → IsCellAt grid.now span i c → slice_get result.now i ≡ slice_get grid.now.cells c.0 }
 {
+    let cells = grid.cells();
     let count = (grid.width() - span.column).min(64) as usize;
     let first = (grid.width() * span.row + span.column) as usize;
-    &grid.cells()[first..first + count]
+    &cells[first..first + count]
 }
