@@ -22,18 +22,20 @@ one_more cells count word within few first i =
     let cell : Bool = get_or cells count false in
     let at : slice_get cells count ≡ Some cell = slice_get-get_or cells count false within in
     let added : IsSet (from_bool cell * 2 ^ count % 2 ^ 64) i ↔ ((i ≡ count) × (cell ≡ true)) = set_in_cell cell count i few in
-    let in_or : IsSet (bit_or word (from_bool cell * 2 ^ count % 2 ^ 64)) i ↔ (IsSet word i ⊎ IsSet (from_bool cell * 2 ^ count % 2 ^ 64) i) = set_in_or word (from_bool cell * 2 ^ count % 2 ^ 64) i in
-    (λ set. elim (in_or.0 set) [
-       | inl before ↦ (let below : i < count = ((first i).0 before).0 in (omega arith, ((first i).0 before).1))
-       | inr now ↦ (let same : i ≡ count = (added.0 now).0 in
-           (omega arith, ap (λ (k : ℕ). slice_get cells k) same ∙ at ∙ ap (λ (b : Bool). Some b) (added.0 now).1))
-     ],
-     λ open_cell. in_or.1 (elim (cases_eq i count) [
-       | inl same ↦ inr (added.1 (same, same_Some cell true (sym at ∙ ap (λ (k : ℕ). slice_get cells k) (sym same) ∙ open_cell.1)))
-       | inr other ↦ (let low : i < count + 1 = open_cell.0 in inl ((first i).1 (omega arith, open_cell.1)))
-     ]))
+    let in_or : IsSet (bit_or word (from_bool cell * 2 ^ count % 2 ^ 64)) i ↔ (IsSet word i ⊎ IsSet (from_bool cell * 2 ^ count % 2 ^ 64) i) = set_in_or word (from_bool cell * 2 ^ count % 2 ^ 64) i in (
+      λ set. elim (in_or.0 set) [
+        | inl before ↦ (let below : i < count = ((first i).0 before).0 in (omega arith, ((first i).0 before).1))
+        | inr now ↦ (let same : i ≡ count = (added.0 now).0 in
+            (omega arith, ap (λ (k : ℕ). slice_get cells k) same ∙ at ∙ ap (λ (b : Bool). Some b) (added.0 now).1))
+      ],
+      λ open_cell. in_or.1 (elim (cases_eq i count) [
+        | inl same ↦ inr (added.1 (same, same_Some cell true (sym at ∙ ap (λ (k : ℕ). slice_get cells k) (sym same) ∙ open_cell.1)))
+        | inr other ↦ (let low : i < count + 1 = open_cell.0 in inl ((first i).1 (omega arith, open_cell.1)))
+      ]),
+    )
 
 pub all_cells : (cells : List Bool) (count word : ℕ) → length cells ≤ count → AreFirst cells count word → (i : ℕ) → IsSet word i ↔ (slice_get cells i ≡ Some true)
-all_cells cells count word past first i =
-    (λ set. ((first i).0 set).1,
-     λ is_open. (let within : i < length cells = slice_get_within cells i true is_open in (first i).1 (omega arith, is_open)))
+all_cells cells count word past first i = (
+  λ set. ((first i).0 set).1,
+  λ is_open. (let within : i < length cells = slice_get_within cells i true is_open in (first i).1 (omega arith, is_open)),
+)

@@ -45,20 +45,22 @@ pub set_in_or : (a b i : ℕ) → IsSet (bit_or a b) i ↔ (IsSet a i ⊎ IsSet 
 set_in_or a b i =
     let greatest : bit_at (bit_or a b) i ≡ max (bit_at a i) (bit_at b i) = bit_at_or a b i in
     let small : bit_at a i < 2 = bit_at-lt a i in
-    let low : bit_at b i < 2 = bit_at-lt b i in
-    (λ set. elim (set_or_not a i) [ inl has ↦ inl has | inr has_not ↦ inr (omega arith) ],
-     λ either. elim either [ inl first ↦ omega arith | inr second ↦ omega arith ])
+    let low : bit_at b i < 2 = bit_at-lt b i in (
+      λ set. elim (set_or_not a i) [ inl has ↦ inl has | inr has_not ↦ inr (omega arith) ],
+      λ either. elim either [ inl first ↦ omega arith | inr second ↦ omega arith ],
+    )
 
 pub set_in_and_not : (a b i : ℕ) → a < 2 ^ 64 → b < 2 ^ 64 → IsSet (bit_and a (bit_not w64 b)) i ↔ (IsSet a i × ¬ (IsSet b i))
 set_in_and_not a b i fits fits_b =
-    let low : bit_at b i < 2 = bit_at-lt b i in
-    (λ set. (let sets : IsSet a i × IsSet (bit_not w64 b) i = (set_in_and a (bit_not w64 b) i).0 set in
-        let turned : bit_at (bit_not w64 b) i ≡ 1 - bit_at b i = bit_at_not w64 b i fits_b (set_below a i fits sets.0) in
-        let kept : bit_at (bit_not w64 b) i ≡ 1 = sets.1 in
-        (sets.0, λ has. omega arith)),
-     λ only. (let turned : bit_at (bit_not w64 b) i ≡ 1 - bit_at b i = bit_at_not w64 b i fits_b (set_below a i fits only.0) in
-        let lacks : bit_at b i ≢ 1 = only.1 in
-        (set_in_and a (bit_not w64 b) i).1 (only.0, omega arith)))
+    let low : bit_at b i < 2 = bit_at-lt b i in (
+      λ set. (let sets : IsSet a i × IsSet (bit_not w64 b) i = (set_in_and a (bit_not w64 b) i).0 set in
+          let turned : bit_at (bit_not w64 b) i ≡ 1 - bit_at b i = bit_at_not w64 b i fits_b (set_below a i fits sets.0) in
+          let kept : bit_at (bit_not w64 b) i ≡ 1 = sets.1 in
+          (sets.0, λ has. omega arith)),
+      λ only. (let turned : bit_at (bit_not w64 b) i ≡ 1 - bit_at b i = bit_at_not w64 b i fits_b (set_below a i fits only.0) in
+          let lacks : bit_at b i ≢ 1 = only.1 in
+          (set_in_and a (bit_not w64 b) i).1 (only.0, omega arith)),
+    )
 
 -- a word's low places
 pub bit_at-mod : (n k i : ℕ) → i < k → bit_at (n % 2 ^ k) i ≡ bit_at n i
@@ -77,15 +79,16 @@ bit_at_even n =
     ap (λ (m : ℕ). bit_at m 0) (sym joined) ∙ bit_at_cat_low n 1 0 0 (omega arith)
 
 pub set_in_shl : (word i : ℕ) → IsSet (word * 2 % 2 ^ 64) i ↔ ((j : ℕ) × (i ≡ j + 1) × (i < 64) × IsSet word j)
-set_in_shl word i =
-    (λ set. (let below : i < 64 = set_below (word * 2 % 2 ^ 64) i (mod_below (word * 2) (2 ^ 64) (pow_pos 64)) set in
-        let shifted : bit_at (word * 2) i ≡ 1 = sym (bit_at-mod (word * 2) 64 i below) ∙ set in
-        elim (cases_eq i 0) [
-          | inl first ↦ (let clear : bit_at (word * 2) i ≡ 0 = ap (λ (k : ℕ). bit_at (word * 2) k) first ∙ bit_at_even word in absurd (omega arith))
-          | inr later ↦ (let after : i ≡ i - 1 + 1 = omega arith in
-              (i - 1, after, below, sym (bit_at_twice word (i - 1)) ∙ ap (λ (k : ℕ). bit_at (word * 2) k) (sym after) ∙ shifted))
-        ]),
-     λ from. bit_at-mod (word * 2) 64 i from.2 ∙ ap (λ (k : ℕ). bit_at (word * 2) k) from.1 ∙ bit_at_twice word from.0 ∙ from.3)
+set_in_shl word i = (
+  λ set. (let below : i < 64 = set_below (word * 2 % 2 ^ 64) i (mod_below (word * 2) (2 ^ 64) (pow_pos 64)) set in
+      let shifted : bit_at (word * 2) i ≡ 1 = sym (bit_at-mod (word * 2) 64 i below) ∙ set in
+      elim (cases_eq i 0) [
+        | inl first ↦ (let clear : bit_at (word * 2) i ≡ 0 = ap (λ (k : ℕ). bit_at (word * 2) k) first ∙ bit_at_even word in absurd (omega arith))
+        | inr later ↦ (let after : i ≡ i - 1 + 1 = omega arith in
+            (i - 1, after, below, sym (bit_at_twice word (i - 1)) ∙ ap (λ (k : ℕ). bit_at (word * 2) k) (sym after) ∙ shifted))
+      ]),
+  λ from. bit_at-mod (word * 2) 64 i from.2 ∙ ap (λ (k : ℕ). bit_at (word * 2) k) from.1 ∙ bit_at_twice word from.0 ∙ from.3,
+)
 
 pub set_in_shr : (word i : ℕ) → IsSet (word / 2) i ↔ IsSet word (i + 1)
 set_in_shr word i =
@@ -93,18 +96,22 @@ set_in_shr word i =
     (λ set. same ∙ set, λ set. sym same ∙ set)
 
 pub set_in_ones : (k i : ℕ) → IsSet (2 ^ k - 1) i ↔ (i < k)
-set_in_ones k i = (λ set. elim (cases_lt i k) [
-  | inl below ↦ below
-  | inr above ↦ (let none : bit_at (2 ^ k - 1) i ≡ 0 = bit_at_ones_above k i above in absurd (omega arith))
-], λ below. bit_at_ones k i below)
+set_in_ones k i = (
+  λ set. elim (cases_lt i k) [
+    | inl below ↦ below
+    | inr above ↦ (let none : bit_at (2 ^ k - 1) i ≡ 0 = bit_at_ones_above k i above in absurd (omega arith))
+  ],
+  λ below. bit_at_ones k i below,
+)
 
 pub set_in_pow : (k i : ℕ) → IsSet (2 ^ k) i ↔ (i ≡ k)
-set_in_pow k i =
-    (λ set. elim (cases_eq i k) [
-       | inl same ↦ same
-       | inr other ↦ (let clear : bit_at (2 ^ k) i ≡ 0 = bit_at-pow_other k i other in absurd (omega arith))
-     ],
-     λ same. ap (λ (j : ℕ). bit_at (2 ^ k) j) same ∙ bit_at-pow_same k)
+set_in_pow k i = (
+  λ set. elim (cases_eq i k) [
+    | inl same ↦ same
+    | inr other ↦ (let clear : bit_at (2 ^ k) i ≡ 0 = bit_at-pow_other k i other in absurd (omega arith))
+  ],
+  λ same. ap (λ (j : ℕ). bit_at (2 ^ k) j) same ∙ bit_at-pow_same k,
+)
 
 -- a word with one place more is greater
 pub more_is_greater : (a b k : ℕ) → ((i : ℕ) → IsSet a i → IsSet b i) → IsSet b k → ¬ (IsSet a k) → a < b

@@ -46,7 +46,11 @@ pub fn lowered(word: u64) -> u64
 pub fn below(count: u32) -> u64
     ensures { (i : ℕ) → IsSet result i ↔ ((i < 64) × (i < count)) }
 {
-    if count < 64 { (1 << count) - 1 } else { u64::MAX }
+    if count < 64 {
+        (1 << count) - 1
+    } else {
+        u64::MAX
+    }
 }
 
 /// That place alone.
