@@ -6,22 +6,24 @@ use Rattle.std.proofs.lemmas.Nat.Bits.{bit_at_and, bit_at_or, bit_at_not, bit_at
 use Rattle.std.proofs.lemmas.Bool.{cases_eq, cases_lt}
 use Rattle.row_words.specs.Words.{IsSet}
 
--- the 64 places of a word
+-- a word has no place from 64 on
 pub set_below : (word i : ℕ) → word < 2 ^ 64 → IsSet word i → i < 64
 set_below word i fits set = elim (cases_lt i 64) [
   | inl below ↦ below
   | inr above ↦ (let none : bit_at word i ≡ 0 = bit_at_above word 64 i fits above in absurd (omega arith))
 ]
 
+-- a place is set or not
 pub set_or_not : (word i : ℕ) → IsSet word i ⊎ (¬ (IsSet word i))
 set_or_not word i = cases_eq (bit_at word i) 1
 
+-- 0 has no place
 pub is_empty : (word : ℕ) → word ≡ 0 → (i : ℕ) → ¬ (IsSet word i)
 is_empty word none i set =
     let clear : bit_at word i ≡ 0 = ap (λ (n : ℕ). bit_at n i) none ∙ bit_at-zero i in
     omega arith
 
--- the lowest place of a word
+-- any other word has a least place
 pub least_set : (word : ℕ) → word < 2 ^ 64 → word ≢ 0 → (trailing_zeros w64 word < 64) × IsSet word (trailing_zeros w64 word) × ((j : ℕ) → j < trailing_zeros w64 word → ¬ (IsSet word j))
 least_set word fits some =
     let found : (trailing_zeros w64 word < 64) × IsSet word (trailing_zeros w64 word) × ((j : ℕ) → j < trailing_zeros w64 word → bit_at word j ≡ 0) = bit_at-trailing_zeros w64 word (omega arith) fits in
@@ -32,8 +34,7 @@ some_set word fits some =
     let found : (trailing_zeros w64 word < 64) × IsSet word (trailing_zeros w64 word) × ((j : ℕ) → j < trailing_zeros w64 word → ¬ (IsSet word j)) = least_set word fits some in
     (trailing_zeros w64 word, found.0, found.1)
 
--- ---- what an operation leaves of the places
-
+-- what each operation on words leaves of the places
 pub set_in_and : (a b i : ℕ) → IsSet (bit_and a b) i ↔ (IsSet a i × IsSet b i)
 set_in_and a b i =
     let least : bit_at (bit_and a b) i ≡ min (bit_at a i) (bit_at b i) = bit_at_and a b i in
@@ -67,6 +68,7 @@ pub bit_at-mod : (n k i : ℕ) → i < k → bit_at (n % 2 ^ k) i ≡ bit_at n i
 bit_at-mod n k i below =
     sym (bit_at_cat_low (n / 2 ^ k) k (n % 2 ^ k) i below) ∙ ap (λ (m : ℕ). bit_at m i) (shr_split n k)
 
+-- a word times two
 pub bit_at_twice : (n j : ℕ) → bit_at (n * 2) (j + 1) ≡ bit_at n j
 bit_at_twice n j =
     let joined : n * 2 ^ 1 + 0 ≡ n * 2 = omega arith in
@@ -78,6 +80,7 @@ bit_at_even n =
     let joined : n * 2 ^ 1 + 0 ≡ n * 2 = omega arith in
     ap (λ (m : ℕ). bit_at m 0) (sym joined) ∙ bit_at_cat_low n 1 0 0 (omega arith)
 
+-- shifted by one place
 pub set_in_shl : (word i : ℕ) → IsSet (word * 2 % 2 ^ 64) i ↔ ((j : ℕ) × (i ≡ j + 1) × (i < 64) × IsSet word j)
 set_in_shl word i = (
   λ set. (let below : i < 64 = set_below (word * 2 % 2 ^ 64) i (mod_below (word * 2) (2 ^ 64) (pow_pos 64)) set in
@@ -95,6 +98,7 @@ set_in_shr word i =
     let same : bit_at word (i + 1) ≡ bit_at (word / 2) i = rw add-one (bit_at-suc word i) in
     (λ set. same ∙ set, λ set. sym same ∙ set)
 
+-- the words of the low places, and of one place
 pub set_in_ones : (k i : ℕ) → IsSet (2 ^ k - 1) i ↔ (i < k)
 set_in_ones k i = (
   λ set. elim (cases_lt i k) [
