@@ -16,7 +16,7 @@ module _ (seeds free up down : ℕ) where
     fits = fits;
     begun = λ i seed opened. (has i).1 (seed, opened);
     sound = λ i set. (let is = (has i).0 set in begin is.0 is.1);
-    next = next
+    next = next;
   }
 
   -- it flows to the next places
@@ -37,7 +37,7 @@ module _ (seeds free up down : ℕ) where
         | inl before ↦ filling.sound i before
         | inr now ↦ (let is = (filling.next i).0 now in flows_on word i filling.sound is.0 is.1)
       ];
-      next = are_next
+      next = are_next;
     }
 
     pub filling_grows : more ≢ 0 → word < wider

@@ -10,4 +10,6 @@ mod places;
 mod tests;
 
 pub use flow::filled;
-pub use places::{below, both, either, is_set, lowered, lowest, open_places, raised, single, without};
+pub use places::{
+    below, both, either, is_set, lowered, lowest, open_places, raised, single, without,
+};

@@ -46,7 +46,11 @@ pub fn lowered(word: u64) -> u64
 pub fn below(count: u32) -> u64
     ensures { (i : ℕ) → IsSet result i ↔ ((i < 64) × (i < count)) }
 {
-    if count < 64 { (1 << count) - 1 } else { u64::MAX }
+    if count < 64 {
+        (1 << count) - 1
+    } else {
+        u64::MAX
+    }
 }
 
 /// That place alone.
@@ -86,8 +90,9 @@ pub fn open_places(cells: &[bool]) -> u64
     ensures { (i : ℕ) → IsSet result i ↔ (slice_get cells.now i ≡ Some true) }
 {
     let mut word = 0;
-    for place in 0..cells.len() {
-        word |= (cells[place] as u64) << place;
+    // From the last cell on, so that each step shifts by one place.
+    for place in (0..cells.len()).rev() {
+        word = word << 1 | cells[place] as u64;
     }
     word
 }

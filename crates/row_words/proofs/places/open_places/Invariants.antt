@@ -1,5 +1,5 @@
-use Rattle.row_words.proofs.CellLemmas.{AreFirst}
+use Rattle.row_words.proofs.CellLemmas.{AreFrom}
 use Rattle.row_words.proofs.places.open_places.Given as goal
 
 abbrev pub invariant-loop-place : goal.invariant-loop-place
-invariant-loop-place l = AreFirst l.cells l.place l.word
+invariant-loop-place l = AreFrom l.cells l.place l.word
