@@ -1,7 +1,7 @@
 -- The flood by spans: what waits where no span is listed, the rise of the level, the beginning, and what one spread makes of it.
 use Rattle.std.proofs.Common.{◌≡◌, ◌≢◌, ℕ, zero, suc, ◌+◌, ◌*◌, ◌<◌, ◌≤◌, ◌⊎◌, inl, inr, List, [], ◌∷◌, length, Some, true, false, refl, sym, ap, subst, ◌∙◌, arith}
 use Rattle.std.specs.Prelude.{slice_get, ◌↔◌}
-use Rattle.std.proofs.lemmas.Option.{slice_get_within, none-some}
+use Rattle.std.proofs.lemmas.Option.{slice_get_within, same_Some, none-some}
 use Rattle.fleet_base.specs.declared.grid.Cell.{Cell}
 use Rattle.fleet_base.specs.declared.grid.Side.{Side}
 use Rattle.fleet_base.specs.declared.grid.Side.TheVariants.{Up, Left, Right, Down}
@@ -16,9 +16,9 @@ use Rattle.static_distance.specs.declared.distances.Distances.{Distances}
 use Rattle.static_distance.specs.Levels.{IsCounted, apart}
 use Rattle.static_distance.specs.Waiting.{IsListed}
 use Rattle.static_distance.specs.Spreading.{Flood, WaitsWell, IsFlood, HasCount, HasSpread}
-use Rattle.static_distance.specs.Spans.{IsSpan, IsCellAt, Holds, Stands, AreListed, IsFree, AreSpans, flood_of, flood_with, IsStep, IsLed, HasSpreadTo, HasCounted}
+use Rattle.static_distance.specs.Spans.{IsSpan, IsCellAt, Holds, Stands, AreListed, IsFree, AreSpans, flood_of, flood_with, IsStep, IsLed, HasSpreadTo, IsShut, HasCounted}
 use Rattle.static_distance.proofs.Ways.{way_open}
-use Rattle.static_distance.proofs.Places.{apart_at}
+use Rattle.static_distance.proofs.Places.{column_at, apart_at}
 use Rattle.static_distance.proofs.SpreadLemmas.{risen_flood, flow_well, away_well, spread_flood}
 
 pub no_items : {X : Type 0} (xs : List X) → length xs ≡ 0 → xs ≡ []
@@ -122,6 +122,50 @@ module _ (g : Terrain) (s : Span) (seeds free up down batch : ℕ) (old : Distan
         | inl none ↦ inl (i, filled.all i (begin seed (spans.free_all s free i c span known free_is at (opened, none))), at)
       ]
 
+  -- After the batch is counted no free cell of its span is led to closer in the row.
+  module _ (d1 d : Distances) (counted : HasCounted g s batch old d1) (marks_same : d.marks ≡ d1.marks) (toward_same : d.toward ≡ old.toward) where
+    free_old : (n : Cell) → IsFree g d.marks n → IsFree g old.marks n
+    free_old n (opened, none) = elim (count_cases g old.marks n spans.marks_fit opened) [
+      | inl free_before ↦ (opened, free_before)
+      | inr is ↦ absurd (
+          let now : IsCounted d1.marks n is.0 = counted.still n is.0 is.1 in
+          let bad : 0 ≡ suc is.0 = same_Some 0 (suc is.0) (sym none ∙ (ap (λ (ms : List ℕ). slice_get ms n.0) marks_same ∙ now)) in
+          omega arith)
+    ]
+
+    batch_counted : (n : Cell) → Holds g s batch n → IsFree g d.marks n → ⊥
+    batch_counted n held (opened, none) =
+        let well = batch_well n held in
+        let now : IsCounted d1.marks n well.0 = counted.counted n well.0 held well.1 in
+        let bad : 0 ≡ suc well.0 = same_Some 0 (suc well.0) (sym none ∙ (ap (λ (ms : List ℕ). slice_get ms n.0) marks_same ∙ now)) in
+        omega arith
+
+    set_free : (n : Cell) (i : ℕ) → IsFree g d.marks n → IsCellAt g s i n → IsSet free i
+    set_free n i is_free at = spans.free_all s free i n span known free_is at (free_old n is_free)
+
+    pub shut_left : IsShut g Left s batch d
+    shut_left c n (j, set, (inside, at)) (x, y, at_c, at_n) is_free step i (inside', at') =
+        let column_c : s.column + j ≡ x + 1 = sym (column_at g c (s.column + j) s.row at) ∙ column_at g c (x + 1) y at_c in
+        let column_n : s.column + i ≡ x = sym (column_at g n (s.column + i) s.row at') ∙ column_at g n x y at_n in
+        let next : j ≡ i + 1 = omega arith in
+        let step' : apart g old.toward n + 1 ≡ apart g old.toward c = subst (λ (p : Place). IsStep g p true c n) toward_same step in
+        let closer : old.toward.column < s.column + j = omega (arith, apart_at g old.toward c (s.column + j) s.row at, apart_at g old.toward n (s.column + i) s.row at') in
+        let flow : Flows seeds free up down (i + 1) = subst (λ (m : ℕ). Flows seeds free up down m) next (filled.only j set) in
+        let downward : IsSet down (i + 1) = subst (λ (m : ℕ). IsSet down m) next ((down_is j).1 (inside, closer)) in
+        batch_counted n (i, filled.all i (fall flow downward (set_free n i is_free (inside', at'))), (inside', at')) is_free
+
+    pub shut_right : IsShut g Right s batch d
+    shut_right c n (j, set, (inside, at)) (x, y, at_c, at_n) is_free step i (inside', at') =
+        let column_c : s.column + j ≡ x = sym (column_at g c (s.column + j) s.row at) ∙ column_at g c x y at_c in
+        let column_n : s.column + i ≡ x + 1 = sym (column_at g n (s.column + i) s.row at') ∙ column_at g n (x + 1) y at_n in
+        let next : i ≡ j + 1 = omega arith in
+        let step' : apart g old.toward n + 1 ≡ apart g old.toward c = subst (λ (p : Place). IsStep g p true c n) toward_same step in
+        let closer : s.column + j < old.toward.column = omega (arith, apart_at g old.toward c (s.column + j) s.row at, apart_at g old.toward n (s.column + i) s.row at') in
+        let upward : IsSet up j = (up_is j).1 (inside, closer) in
+        let is_set : IsSet free (j + 1) = subst (λ (m : ℕ). IsSet free m) next (set_free n i is_free (inside', at')) in
+        let mine : IsSet batch i = subst (λ (m : ℕ). IsSet batch m) (sym next) (filled.all (j + 1) (rise (filled.only j set) upward is_set)) in
+        batch_counted n (i, mine, (inside', at')) is_free
+
   -- The batch is counted, and then its cells are left by the four sides.
   module _ (d1 d2 d3 d4 d5 : Distances) (counted : HasCounted g s batch old d1) (one : HasSpreadTo g Up s batch d1 d2) (two : HasSpreadTo g Down s batch d2 d3)
       (three : HasSpreadTo g Left s batch d3 d4) (four : HasSpreadTo g Right s batch d4 d5) where
@@ -208,7 +252,7 @@ module _ (g : Terrain) (s : Span) (seeds free up down batch : ℕ) (old : Distan
       | inr (stands, step) ↦ inr (stands, subst (λ (p : Place). IsStep g p false c n) (three.kept.toward ∙ (two.kept.toward ∙ (one.kept.toward ∙ toward_is))) step)
     ]
 
-    has_spread : length d1.marks ≡ length g.cells → HasSpread g (λ c. Holds g s batch c) before (flood_of g d5)
+    pub has_spread : length d1.marks ≡ length g.cells → HasSpread g (λ c. Holds g s batch c) before (flood_of g d5)
     has_spread fit = record {
       goal = four.kept.goal ∙ (three.kept.goal ∙ (two.kept.goal ∙ (one.kept.goal ∙ counted.goal)));
       toward = four.kept.toward ∙ (three.kept.toward ∙ (two.kept.toward ∙ (one.kept.toward ∙ counted.toward)));

@@ -11,10 +11,10 @@ use Rattle.fleet_base.proofs.GridLemmas.{placed}
 use Rattle.static_distance.specs.declared.place.Place.{Place}
 use Rattle.static_distance.specs.Levels.{IsPlaceOf, gap, apart}
 
-column_at : (g : Terrain) (c : Cell) (x y : ℕ) → IsAt g c x y → c.0 % g.width ≡ x
+pub column_at : (g : Terrain) (c : Cell) (x y : ℕ) → IsAt g c x y → c.0 % g.width ≡ x
 column_at g c x y (inside, high, is) = rw is (mod-mul-add y g.width x inside)
 
-row_at : (g : Terrain) (c : Cell) (x y : ℕ) → IsAt g c x y → c.0 / g.width ≡ y
+pub row_at : (g : Terrain) (c : Cell) (x y : ℕ) → IsAt g c x y → c.0 / g.width ≡ y
 row_at g c x y (inside, high, is) = rw is (div-mul-add y g.width x inside)
 
 -- a cell is where its place says
