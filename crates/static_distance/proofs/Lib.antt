@@ -3,3 +3,4 @@ pub mod Places
 pub mod LevelLemmas
 pub mod SpreadLemmas
 pub mod FloodLemmas
+pub mod MarkLemmas
