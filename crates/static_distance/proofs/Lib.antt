@@ -3,4 +3,5 @@ pub mod Places
 pub mod LevelLemmas
 pub mod SpreadLemmas
 pub mod FloodLemmas
+pub mod AimLemmas
 pub mod MarkLemmas

@@ -1,0 +1,34 @@
+use Rattle.std.proofs.Common.{arith, ap, sym, subst, ◌∙◌, ◌≡◌, ℕ, ◌*◌, ◌++◌, ◌∷◌, [], List, length, inl, inr, refl}
+use Rattle.std.proofs.lemmas.List.{length-replicate}
+use Rattle.static_distance.specs.declared.distances.Distances.{Distances}
+use Rattle.static_distance.specs.Levels.{apart, uncounted}
+use Rattle.static_distance.specs.Spans.{stride}
+use Rattle.static_distance.specs.Aim.{AreFitting}
+use Rattle.static_distance.proofs.AimLemmas.{all_uncounted, fresh_spans, closed_flood}
+use Rattle.static_distance.proofs.distances.Distances.aim.Goals as goal
+
+pub returns-in_ok-add-clause-aimed : goal.returns-in_ok-add-clause-aimed
+returns-in_ok-add-clause-aimed c = ?
+
+pub returns-else-is_open-clause-aimed : goal.returns-else-is_open-clause-aimed
+returns-else-is_open-clause-aimed c =
+    let g = c.args.grid.now in
+    let cells = length c.fit.new.self.marks in
+    let spans = length c.fit.new.self.known in
+    let d : Distances = record {
+      alloc = c.fit.new.self.alloc; goal = c.args.goal; toward = c.place_of-self.result; marks = c.clear.new.self; known = c.clear-2.new.self; free = c.fit.new.self.free; level = c.moves_between-self.result;
+      here = record { words = c.fit.new.self.here.words; spans = c.clear-3.new.self }; next = record { words = c.fit.new.self.next.words; spans = c.clear-4.new.self };
+    } in
+    let on_level : c.moves_between-self.result ≡ apart g c.place_of-self.result c.args.goal = omega (arith, c.moves_between-self.ensures.moves, c.place_of-place.ensures.place) in
+    let all : uncounted c.clear.new.self ≡ cells = ap uncounted c.clear.ensures ∙ all_uncounted cells in
+    let cells_are : cells ≡ length g.cells = ap length c.in_ok-fit.ensures.marks ∙ c.requires.room in
+    let count : length c.clear-3.new.self.items ≡ 0 = ap length c.clear-3.ensures.items in
+    let none : length c.clear-4.new.self.items ≡ 0 = ap length c.clear-4.ensures.items in
+    let known_fit : length c.clear-2.new.self ≡ spans = ap length c.clear-2.ensures ∙ length-replicate spans 0 in
+    let words = subst (λ (n : ℕ). AreFitting n c.fit.new.self) (ap (λ (n : ℕ). n * c.stride.result) c.height.ensures ∙ ap (λ (n : ℕ). g.height * n) c.stride.ensures.value) c.in_ok-fit.ensures.fit in
+    record {
+      near = c.place_of-self.ensures.near;
+      bounded = omega (arith, c.moves_between-self.ensures.few, c.requires.room, c.cells-limits.ensures.limits.area, c.cells-limits.ensures.limits.full);
+      spans = fresh_spans g d cells spans c.clear.ensures c.clear-2.ensures (record { known = known_fit ∙ words.known; free = words.free; here = words.here; next = words.next }) cells_are c.clear-3.ensures.items c.clear-4.ensures.items;
+      flood = closed_flood g d cells spans c.clear.ensures c.clear-2.ensures on_level (λ opened. (let bad = c.if-is_open.ensures.1 opened in absurd (cc)));
+    }
