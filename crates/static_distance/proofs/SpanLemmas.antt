@@ -4,7 +4,7 @@ use Rattle.std.specs.Prelude.{slice_get}
 use Rattle.std.proofs.lemmas.Bool.{cases_eq}
 use Rattle.std.proofs.lemmas.List.{length-set, length-take}
 use Rattle.std.proofs.lemmas.Nat.{mod-mul-add, div-mul-add, mul-add-lt}
-use Rattle.std.proofs.lemmas.Option.{slice_get_within, slice_get-get_or, same_Some, none-some}
+use Rattle.std.proofs.lemmas.Option.{slice_get_within, slice_get-get_or, slice_get_read, same_Some, none-some}
 use Rattle.fleet_base.specs.declared.grid.Cell.{Cell}
 use Rattle.fleet_base.specs.Terrain.{Terrain, IsOpen, IsAt}
 use Rattle.fleet_base.proofs.TrafficLemmas.{same_cells}
@@ -338,8 +338,11 @@ module _ (g : Terrain) where
 
   -- ---- of the cells of a word those that are free wait
 
-  module _ (d m : Distances) (s : Span) (word free entered : ℕ) (is : IsSpan g s) (looked : HasLooked g s d m) (free_at : slice_get m.free.items s.number ≡ Some free)
+  module _ (d m : Distances) (s : Span) (word free entered : ℕ) (is : IsSpan g s) (looked : HasLooked g s d m) (free_is : free ≡ get_or m.free.items s.number free)
       (both : (i : ℕ) → IsSet entered i ↔ (IsSet word i × IsSet free i)) where
+    free_at : slice_get m.free.items s.number ≡ Some free
+    free_at = slice_get_read m.free.items (length m.free.items) s.number free refl (omega (arith, looked.spans.free_fit, span_inside s is)) free_is
+
     free_held : (c : Cell) → Holds g s word c → IsFree g d.marks c → Holds g s entered c
     free_held c (i, set, cell) is_free =
         (i, (both i).1 (set, looked.spans.free_all s free i c is looked.known free_at cell (subst (λ (marks : List ℕ). IsFree g marks c) (sym looked.kept.marks) is_free)), cell)
