@@ -1,12 +1,12 @@
 -- Spans of a grid: what is known of a span and its word, and of the cells that stand in it.
-use Rattle.std.proofs.Common.{◌≡◌, ◌≢◌, ℕ, zero, suc, ◌+◌, ◌-◌, ◌*◌, ◌/◌, ◌%◌, ◌<◌, ◌≤◌, ◌⊎◌, ◌↔◌, inl, inr, min, get_or, Bool, true, false, List, [], ◌∷◌, length, Some, refl, sym, ap, subst, ◌∙◌, arith, set, take, drop}
+use Rattle.std.proofs.Common.{◌≡◌, ◌≢◌, ℕ, zero, suc, ◌+◌, ◌-◌, ◌*◌, ◌/◌, ◌%◌, ◌<◌, ◌⊎◌, ◌↔◌, inl, inr, min, get_or, Bool, true, false, List, [], ◌∷◌, length, Some, refl, sym, ap, subst, ◌∙◌, arith, set, take, drop}
 use Rattle.std.specs.Prelude.{slice_get}
 use Rattle.std.proofs.lemmas.Bool.{cases_eq}
 use Rattle.std.proofs.lemmas.List.{length-set, length-take}
 use Rattle.std.proofs.lemmas.Nat.{mod-mul-add, div-mul-add, mul-add-lt}
-use Rattle.std.proofs.lemmas.Option.{slice_get_within, slice_get-get_or, slice_get_read, same_Some, none-some}
+use Rattle.std.proofs.lemmas.Option.{slice_get_within, slice_get-get_or, slice_get_read, same_Some}
 use Rattle.fleet_base.specs.declared.grid.Cell.{Cell}
-use Rattle.fleet_base.specs.Terrain.{Terrain, IsOpen, IsAt}
+use Rattle.fleet_base.specs.Terrain.{Terrain, IsOpen}
 use Rattle.fleet_base.proofs.TrafficLemmas.{same_cells}
 use Rattle.row_words.specs.Words.{IsSet}
 use Rattle.row_words.proofs.WordLemmas.{is_empty}
@@ -15,7 +15,7 @@ use Rattle.static_distance.specs.declared.waiting.Waiting.{Waiting}
 use Rattle.static_distance.specs.declared.distances.Distances.{Distances}
 use Rattle.static_distance.specs.Levels.{IsCounted}
 use Rattle.static_distance.specs.Waiting.{IsListed, HasAdded}
-use Rattle.static_distance.specs.Spans.{stride, IsSpan, IsCellAt, Holds, Stands, AreListed, IsFree, AreSpans, KeepsWaiting, HasEntered}
+use Rattle.static_distance.specs.Spans.{stride, IsSpan, IsCellAt, Holds, Stands, AreListed, IsFree, AreSpans, HasEntered}
 use Rattle.static_distance.specs.Aim.{HasLooked}
 
 -- ---- lists
@@ -62,6 +62,10 @@ module _ (g : Terrain) where
   pub span_inside : (s : Span) → IsSpan g s → s.number < g.height * stride g
   span_inside s is = (let inside : s.row * stride g + is.part < stride g * g.height = mul-add-lt s.row (stride g) is.part g.height is.row_in (part_inside s is) in
       omega (arith, is.number_is))
+
+  -- the span has a place in a list with one for each span
+  pub span_within : (s : Span) (xs : List ℕ) → IsSpan g s → length xs ≡ g.height * stride g → s.number < length xs
+  span_within s xs is fit = omega (arith, span_inside s is)
 
   -- a number is that of one span
   pub span_once : (s t : Span) → IsSpan g s → IsSpan g t → s.number ≡ t.number → s ≡ t
@@ -129,34 +133,34 @@ module _ (g : Terrain) where
 
   -- ---- a span that wasn't known is looked at, and has no cell that waits
 
-  module _ (known words : List ℕ) (n : ℕ) (within : n < length known) (within_words : n < length words) (unknown : slice_get known n ≢ Some 1) where
-    known_still : (k : ℕ) → slice_get known k ≡ Some 1 → slice_get (set known n 1) k ≡ Some 1
-    known_still k at = set_there known n k 1 (λ same. unknown (ap (slice_get known) (sym same) ∙ at)) ∙ at
+  known_still : (known : List ℕ) (n k : ℕ) → slice_get known n ≢ Some 1 → slice_get known k ≡ Some 1 → slice_get (set known n 1) k ≡ Some 1
+  known_still known n k unknown at = set_there known n k 1 (λ same. unknown (ap (slice_get known) (sym same) ∙ at)) ∙ at
 
-    known_before : (k : ℕ) → k ≢ n → slice_get (set known n 1) k ≡ Some 1 → slice_get known k ≡ Some 1
-    known_before k other at = sym (set_there known n k 1 other) ∙ at
+  known_before : (known : List ℕ) (n k : ℕ) → k ≢ n → slice_get (set known n 1) k ≡ Some 1 → slice_get known k ≡ Some 1
+  known_before known n k other at = sym (set_there known n k 1 other) ∙ at
 
+  module _ (known words : List ℕ) (n : ℕ) (within : n < length words) (unknown : slice_get known n ≢ Some 1) where
     stands_still : (c : Cell) → Stands g known words c → Stands g (set known n 1) (set words n 0) c
     stands_still c stands =
         let other : stands.span.number ≢ n = λ same. unknown (ap (slice_get known) (sym same) ∙ stands.known_is) in
-        stands_of (set known n 1) (set words n 0) stands.span stands.word c stands.is (known_still stands.span.number stands.known_is)
+        stands_of (set known n 1) (set words n 0) stands.span stands.word c stands.is (known_still known n stands.span.number unknown stands.known_is)
         (set_there words n stands.span.number 0 other ∙ stands.at) stands.holds
 
     stood_before : (c : Cell) → Stands g (set known n 1) (set words n 0) c → Stands g known words c
     stood_before c stands = elim (cases_eq stands.span.number n) [
       | inl same ↦ absurd (
-          let none : 0 ≡ stands.word = same_Some 0 stands.word (sym (set_here words n 0 within_words) ∙ (ap (slice_get (set words n 0)) (sym same) ∙ stands.at)) in
+          let none : 0 ≡ stands.word = same_Some 0 stands.word (sym (set_here words n 0 within) ∙ (ap (slice_get (set words n 0)) (sym same) ∙ stands.at)) in
           is_empty stands.word (sym none) stands.holds.0 stands.holds.1)
-      | inr other ↦ stands_of known words stands.span stands.word c stands.is (known_before stands.span.number other stands.known_is)
+      | inr other ↦ stands_of known words stands.span stands.word c stands.is (known_before known n stands.span.number other stands.known_is)
           (sym (set_there words n stands.span.number 0 other) ∙ stands.at) stands.holds
     ]
 
     listed_still : (spans : List Span) → AreListed g known words spans → AreListed g (set known n 1) (set words n 0) spans
     listed_still spans are = record {
-      spans_are = λ j s at. (let is : IsSpan g s × (slice_get known s.number ≡ Some 1) = are.spans_are j s at in (is.0, known_still s.number is.1));
+      spans_are = λ j s at. (let is : IsSpan g s × (slice_get known s.number ≡ Some 1) = are.spans_are j s at in (is.0, known_still known n s.number unknown is.1));
       listed = λ k w known_is at some. elim (cases_eq k n) [
-        | inl same ↦ absurd (some (same_Some w 0 (sym at ∙ (ap (slice_get (set words n 0)) same ∙ set_here words n 0 within_words))))
-        | inr other ↦ are.listed k w (known_before k other known_is) (sym (set_there words n k 0 other) ∙ at) some
+        | inl same ↦ absurd (some (same_Some w 0 (sym at ∙ (ap (slice_get (set words n 0)) same ∙ set_here words n 0 within))))
+        | inr other ↦ are.listed k w (known_before known n k other known_is) (sym (set_there words n k 0 other) ∙ at) some
       ];
     }
 
@@ -181,17 +185,11 @@ module _ (g : Terrain) where
       (values : (i : ℕ) (v : Bool) → slice_get cells i ≡ Some v → (c : Cell) × IsCellAt g s i c × (slice_get g.cells c.0 ≡ Some v))
       (all : (i : ℕ) (c : Cell) → IsCellAt g s i c → slice_get cells i ≡ slice_get g.cells c.0)
       (opened : (i : ℕ) → IsSet word i ↔ (slice_get cells i ≡ Some true)) (looks : IsLookedAt d e s.number word) where
-    in_known : s.number < length d.known
-    in_known = omega (arith, spans.known_fit, span_inside s is)
-
-    in_free : s.number < length d.free.items
-    in_free = omega (arith, spans.free_fit, span_inside s is)
-
     in_here : s.number < length d.here.words.items
-    in_here = omega (arith, spans.here_fit, span_inside s is)
+    in_here = span_within s d.here.words.items is spans.here_fit
 
     in_next : s.number < length d.next.words.items
-    in_next = omega (arith, spans.next_fit, span_inside s is)
+    in_next = span_within s d.next.words.items is spans.next_fit
 
     -- no cell of the span is counted, so that those that are open are free
     open_free : (i : ℕ) (c : Cell) → IsCellAt g s i c → IsOpen g c → IsFree g d.marks c
@@ -203,17 +201,18 @@ module _ (g : Terrain) where
         ])
 
     known_then : (k : ℕ) → slice_get d.known k ≡ Some 1 → slice_get e.known k ≡ Some 1
-    known_then k at = ap (λ (xs : List ℕ). slice_get xs k) looks.known ∙ known_still d.known d.here.words.items s.number in_known in_here unknown k at
+    known_then k at = ap (λ (xs : List ℕ). slice_get xs k) looks.known ∙ known_still d.known s.number k unknown at
 
     known_here : slice_get e.known s.number ≡ Some 1
-    known_here = ap (λ (xs : List ℕ). slice_get xs s.number) looks.known ∙ set_here d.known s.number 1 in_known
+    known_here = ap (λ (xs : List ℕ). slice_get xs s.number) looks.known ∙ set_here d.known s.number 1 (span_within s d.known is spans.known_fit)
 
     known_elsewhere : (k : ℕ) → k ≢ s.number → slice_get e.known k ≡ Some 1 → slice_get d.known k ≡ Some 1
-    known_elsewhere k other at = known_before d.known d.here.words.items s.number in_known in_here unknown k other (ap (λ (xs : List ℕ). slice_get xs k) (sym looks.known) ∙ at)
+    known_elsewhere k other at = known_before d.known s.number k other (ap (λ (xs : List ℕ). slice_get xs k) (sym looks.known) ∙ at)
 
     free_word : (t : Span) (w : ℕ) → t.number ≡ s.number → slice_get e.free.items t.number ≡ Some w → w ≡ word
     free_word t w same at =
-        let here : slice_get e.free.items s.number ≡ Some word = ap (λ (xs : List ℕ). slice_get xs s.number) looks.free ∙ set_here d.free.items s.number word in_free in
+        let within : s.number < length d.free.items = span_within s d.free.items is spans.free_fit in
+        let here : slice_get e.free.items s.number ≡ Some word = ap (λ (xs : List ℕ). slice_get xs s.number) looks.free ∙ set_here d.free.items s.number word within in
         same_Some w word (sym at ∙ (ap (slice_get e.free.items) same ∙ here))
 
     free_elsewhere : (k w : ℕ) → k ≢ s.number → slice_get e.free.items k ≡ Some w → slice_get d.free.items k ≡ Some w
@@ -247,8 +246,8 @@ module _ (g : Terrain) where
           subst (λ (marks : List ℕ). (c : Cell) × IsCellAt g t i c × IsFree g marks c) (sym looks.marks) (looked_free_only t w i is' known_is at set below);
       free_all = λ t w i c is' known_is at cell free. looked_free_all t w i c is' known_is at cell (subst (λ (marks : List ℕ). IsFree g marks c) looks.marks free);
       looked = λ t i k c is' cell counted. known_then t.number (spans.looked t i k c is' cell (subst (λ (marks : List ℕ). IsCounted marks c k) looks.marks counted));
-      here_listed = rw (looks.known, looks.here, looks.here_spans) (listed_still d.known d.here.words.items s.number in_known in_here unknown d.here.spans.items spans.here_listed);
-      next_listed = rw (looks.known, looks.next, looks.next_spans) (listed_still d.known d.next.words.items s.number in_known in_next unknown d.next.spans.items spans.next_listed);
+      here_listed = rw (looks.known, looks.here, looks.here_spans) (listed_still d.known d.here.words.items s.number in_here unknown d.here.spans.items spans.here_listed);
+      next_listed = rw (looks.known, looks.next, looks.next_spans) (listed_still d.known d.next.words.items s.number in_next unknown d.next.spans.items spans.next_listed);
     }
 
     pub has_looked : HasLooked g s d e
@@ -260,11 +259,11 @@ module _ (g : Terrain) where
         toward = looks.toward;
         level = looks.level;
         marks = looks.marks;
-        here = λ c stands. rw (looks.known, looks.here) (stands_still d.known d.here.words.items s.number in_known in_here unknown c stands);
-        next = λ c stands. rw (looks.known, looks.next) (stands_still d.known d.next.words.items s.number in_known in_next unknown c stands);
+        here = λ c stands. rw (looks.known, looks.here) (stands_still d.known d.here.words.items s.number in_here unknown c stands);
+        next = λ c stands. rw (looks.known, looks.next) (stands_still d.known d.next.words.items s.number in_next unknown c stands);
       };
-      here_only = λ c stands. stood_before d.known d.here.words.items s.number in_known in_here unknown c (rw (looks.known, looks.here) at stands);
-      next_only = λ c stands. stood_before d.known d.next.words.items s.number in_known in_next unknown c (rw (looks.known, looks.next) at stands);
+      here_only = λ c stands. stood_before d.known d.here.words.items s.number in_here unknown c (rw (looks.known, looks.here) at stands);
+      next_only = λ c stands. stood_before d.known d.next.words.items s.number in_next unknown c (rw (looks.known, looks.next) at stands);
       here_spans = looks.here_spans;
       next_spans = looks.next_spans;
     }
@@ -332,6 +331,35 @@ module _ (g : Terrain) where
       ];
     }
 
+  module _ (m : Distances) (s : Span) (word : ℕ) (is : IsSpan g s) (spans : AreSpans g m) (known_is : slice_get m.known s.number ≡ Some 1) (new : Waiting) where
+    pub spans_here : HasAdded m.here new s word → length new.words.items ≡ length m.here.words.items → AreSpans g (record m { here = new })
+    spans_here added fits = record {
+      marks_fit = spans.marks_fit;
+      known_fit = spans.known_fit;
+      free_fit = spans.free_fit;
+      here_fit = fits ∙ spans.here_fit;
+      next_fit = spans.next_fit;
+      free_only = spans.free_only;
+      free_all = spans.free_all;
+      looked = spans.looked;
+      here_listed = added_listed m.known m.here new s word is known_is added (span_within s new.words.items is (fits ∙ spans.here_fit)) spans.here_listed;
+      next_listed = spans.next_listed;
+    }
+
+    pub spans_next : HasAdded m.next new s word → length new.words.items ≡ length m.next.words.items → AreSpans g (record m { next = new })
+    spans_next added fits = record {
+      marks_fit = spans.marks_fit;
+      known_fit = spans.known_fit;
+      free_fit = spans.free_fit;
+      here_fit = spans.here_fit;
+      next_fit = fits ∙ spans.next_fit;
+      free_only = spans.free_only;
+      free_all = spans.free_all;
+      looked = spans.looked;
+      here_listed = spans.here_listed;
+      next_listed = added_listed m.known m.next new s word is known_is added (span_within s new.words.items is (fits ∙ spans.next_fit)) spans.next_listed;
+    }
+
   -- a span's places are of one cell each
   cell_once : (s : Span) (i : ℕ) (c n : Cell) → IsCellAt g s i c → IsCellAt g s i n → c ≡ n
   cell_once s i c n (few, (inside, high, at)) (few', (inside', high', at')) = same_cells c n (at ∙ sym at')
@@ -362,76 +390,44 @@ module _ (g : Terrain) where
       entered = λ c held is_free. (let holds : Holds g s entered c = free_held c held is_free in absurd (is_empty entered none holds.0 holds.1));
     }
 
-    in_words : (words : List ℕ) → length words ≡ g.height * stride g → s.number < length words
-    in_words words fit = omega (arith, span_inside s is)
+    pub entered_here : (new : Waiting) (closer : Bool) → closer ≡ true → HasAdded m.here new s entered → length new.words.items ≡ length m.here.words.items → HasEntered g s word closer d (record m { here = new })
+    entered_here new closer on_level added fits = record {
+      kept = record {
+        goal = looked.kept.goal;
+        toward = looked.kept.toward;
+        level = looked.kept.level;
+        marks = looked.kept.marks;
+        here = λ c stands. added_kept m.known m.here new s entered is looked.known added within c (looked.kept.here c stands);
+        next = looked.kept.next;
+      };
+      here_only = λ c stands. elim (added_only m.known m.here new s entered is looked.known added within c stands) [
+        | inl earlier ↦ inl (looked.here_only c earlier)
+        | inr now ↦ inr (on_level, (held_free c now).0, (held_free c now).1)
+      ];
+      next_only = λ c stands. inl (looked.next_only c stands);
+      entered = λ c held is_free. inl (on_level, added_stands m.known m.here new s entered is looked.known added within c (free_held c held is_free));
+    }
+      where
+        within : s.number < length new.words.items
+        within = span_within s new.words.items is (fits ∙ looked.spans.here_fit)
 
-    module _ (new : Waiting) where
-      pub spans_here : HasAdded m.here new s entered → length new.words.items ≡ length m.here.words.items → AreSpans g (record m { here = new })
-      spans_here added fits = record {
-        marks_fit = looked.spans.marks_fit;
-        known_fit = looked.spans.known_fit;
-        free_fit = looked.spans.free_fit;
-        here_fit = fits ∙ looked.spans.here_fit;
-        next_fit = looked.spans.next_fit;
-        free_only = looked.spans.free_only;
-        free_all = looked.spans.free_all;
-        looked = looked.spans.looked;
-        here_listed = added_listed m.known m.here new s entered is looked.known added (in_words new.words.items (fits ∙ looked.spans.here_fit)) looked.spans.here_listed;
-        next_listed = looked.spans.next_listed;
-      }
-
-      pub spans_next : HasAdded m.next new s entered → length new.words.items ≡ length m.next.words.items → AreSpans g (record m { next = new })
-      spans_next added fits = record {
-        marks_fit = looked.spans.marks_fit;
-        known_fit = looked.spans.known_fit;
-        free_fit = looked.spans.free_fit;
-        here_fit = looked.spans.here_fit;
-        next_fit = fits ∙ looked.spans.next_fit;
-        free_only = looked.spans.free_only;
-        free_all = looked.spans.free_all;
-        looked = looked.spans.looked;
-        here_listed = looked.spans.here_listed;
-        next_listed = added_listed m.known m.next new s entered is looked.known added (in_words new.words.items (fits ∙ looked.spans.next_fit)) looked.spans.next_listed;
-      }
-
-      pub entered_here : (closer : Bool) → closer ≡ true → HasAdded m.here new s entered → length new.words.items ≡ length m.here.words.items → HasEntered g s word closer d (record m { here = new })
-      entered_here closer on_level added fits = record {
-        kept = record {
-          goal = looked.kept.goal;
-          toward = looked.kept.toward;
-          level = looked.kept.level;
-          marks = looked.kept.marks;
-          here = λ c stands. added_kept m.known m.here new s entered is looked.known added within c (looked.kept.here c stands);
-          next = looked.kept.next;
-        };
-        here_only = λ c stands. elim (added_only m.known m.here new s entered is looked.known added within c stands) [
-          | inl earlier ↦ inl (looked.here_only c earlier)
-          | inr now ↦ inr (on_level, (held_free c now).0, (held_free c now).1)
-        ];
-        next_only = λ c stands. inl (looked.next_only c stands);
-        entered = λ c held is_free. inl (on_level, added_stands m.known m.here new s entered is looked.known added within c (free_held c held is_free));
-      }
-        where
-          within : s.number < length new.words.items
-          within = in_words new.words.items (fits ∙ looked.spans.here_fit)
-
-      pub entered_next : (closer : Bool) → closer ≡ false → HasAdded m.next new s entered → length new.words.items ≡ length m.next.words.items → HasEntered g s word closer d (record m { next = new })
-      entered_next closer on_next added fits = record {
-        kept = record {
-          goal = looked.kept.goal;
-          toward = looked.kept.toward;
-          level = looked.kept.level;
-          marks = looked.kept.marks;
-          here = looked.kept.here;
-          next = λ c stands. added_kept m.known m.next new s entered is looked.known added within c (looked.kept.next c stands);
-        };
-        here_only = λ c stands. inl (looked.here_only c stands);
-        next_only = λ c stands. elim (added_only m.known m.next new s entered is looked.known added within c stands) [
-          | inl earlier ↦ inl (looked.next_only c earlier)
-          | inr now ↦ inr (on_next, (held_free c now).0, (held_free c now).1)
-        ];
-        entered = λ c held is_free. inr (on_next, added_stands m.known m.next new s entered is looked.known added within c (free_held c held is_free));
-      }
-        where
-          within : s.number < length new.words.items
-          within = in_words new.words.items (fits ∙ looked.spans.next_fit)
+    pub entered_next : (new : Waiting) (closer : Bool) → closer ≡ false → HasAdded m.next new s entered → length new.words.items ≡ length m.next.words.items → HasEntered g s word closer d (record m { next = new })
+    entered_next new closer on_next added fits = record {
+      kept = record {
+        goal = looked.kept.goal;
+        toward = looked.kept.toward;
+        level = looked.kept.level;
+        marks = looked.kept.marks;
+        here = looked.kept.here;
+        next = λ c stands. added_kept m.known m.next new s entered is looked.known added within c (looked.kept.next c stands);
+      };
+      here_only = λ c stands. inl (looked.here_only c stands);
+      next_only = λ c stands. elim (added_only m.known m.next new s entered is looked.known added within c stands) [
+        | inl earlier ↦ inl (looked.next_only c earlier)
+        | inr now ↦ inr (on_next, (held_free c now).0, (held_free c now).1)
+      ];
+      entered = λ c held is_free. inr (on_next, added_stands m.known m.next new s entered is looked.known added within c (free_held c held is_free));
+    }
+      where
+        within : s.number < length new.words.items
+        within = span_within s new.words.items is (fits ∙ looked.spans.next_fit)

@@ -8,8 +8,8 @@ returns-then-entered-eq0-clause-entered c =
 
 pub returns-in_ok-add-clause-spans : goal.returns-in_ok-add-clause-spans
 returns-in_ok-add-clause-spans c =
-    spans_here c.args.grid.now c.args.self.now c.look_at.new.self c.args.span c.args.word c.index.result.now c.both-entered.result
-    c.requires.span c.look_at.ensures.looked c.index.ensures c.both-entered.ensures c.add.new.self c.in_ok-add.ensures.added c.in_ok-add.ensures.words
+    spans_here c.args.grid.now c.look_at.new.self c.args.span c.both-entered.result c.requires.span c.look_at.ensures.looked.spans c.look_at.ensures.looked.known
+    c.add.new.self c.in_ok-add.ensures.added c.in_ok-add.ensures.words
 
 pub returns-in_ok-add-clause-entered : goal.returns-in_ok-add-clause-entered
 returns-in_ok-add-clause-entered c =
@@ -18,8 +18,8 @@ returns-in_ok-add-clause-entered c =
 
 pub returns-in_ok-add-2-clause-spans : goal.returns-in_ok-add-2-clause-spans
 returns-in_ok-add-2-clause-spans c =
-    spans_next c.args.grid.now c.args.self.now c.look_at.new.self c.args.span c.args.word c.index.result.now c.both-entered.result
-    c.requires.span c.look_at.ensures.looked c.index.ensures c.both-entered.ensures c.add-else-closer.new.self c.in_ok-add-2.ensures.added c.in_ok-add-2.ensures.words
+    spans_next c.args.grid.now c.look_at.new.self c.args.span c.both-entered.result c.requires.span c.look_at.ensures.looked.spans c.look_at.ensures.looked.known
+    c.add-else-closer.new.self c.in_ok-add-2.ensures.added c.in_ok-add-2.ensures.words
 
 pub returns-in_ok-add-2-clause-entered : goal.returns-in_ok-add-2-clause-entered
 returns-in_ok-add-2-clause-entered c =
