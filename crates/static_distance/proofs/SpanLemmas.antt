@@ -111,6 +111,7 @@ module _ (g : Terrain) where
 
   -- ---- cells that stand in a span
 
+  -- a cell of the word of a span that was looked at
   pub stands_of : (known words : List ℕ) (s : Span) (word : ℕ) (c : Cell) → IsSpan g s → slice_get known s.number ≡ Some 1 → slice_get words s.number ≡ Some word → Holds g s word c
       → Stands g known words c
   stands_of known words s word c is known_is at holds = record { span = s; is = is; known_is = known_is; word = word; at = at; holds = holds }
@@ -227,7 +228,8 @@ module _ (g : Terrain) where
       | inr other ↦ spans.free_only t w i is' (known_elsewhere t.number other known_is) (free_elsewhere t.number w other at) set below
     ]
 
-    looked_free_all : (t : Span) (w i : ℕ) (c : Cell) → IsSpan g t → slice_get e.known t.number ≡ Some 1 → slice_get e.free.items t.number ≡ Some w → IsCellAt g t i c → IsFree g d.marks c → IsSet w i
+    looked_free_all : (t : Span) (w i : ℕ) (c : Cell) → IsSpan g t → slice_get e.known t.number ≡ Some 1 → slice_get e.free.items t.number ≡ Some w → IsCellAt g t i c → IsFree g d.marks c
+        → IsSet w i
     looked_free_all t w i c is' known_is at cell free = elim (cases_eq t.number s.number) [
       | inl same ↦
           let mine : IsCellAt g s i c = subst (λ (u : Span). IsCellAt g u i c) (span_once t s is' is same) cell in
@@ -390,7 +392,8 @@ module _ (g : Terrain) where
       entered = λ c held is_free. (let holds : Holds g s entered c = free_held c held is_free in absurd (is_empty entered none holds.0 holds.1));
     }
 
-    pub entered_here : (new : Waiting) (closer : Bool) → closer ≡ true → HasAdded m.here new s entered → length new.words.items ≡ length m.here.words.items → HasEntered g s word closer d (record m { here = new })
+    pub entered_here : (new : Waiting) (closer : Bool) → closer ≡ true → HasAdded m.here new s entered → length new.words.items ≡ length m.here.words.items
+        → HasEntered g s word closer d (record m { here = new })
     entered_here new closer on_level added fits = record {
       kept = record {
         goal = looked.kept.goal;
@@ -411,7 +414,8 @@ module _ (g : Terrain) where
         within : s.number < length new.words.items
         within = span_within s new.words.items is (fits ∙ looked.spans.here_fit)
 
-    pub entered_next : (new : Waiting) (closer : Bool) → closer ≡ false → HasAdded m.next new s entered → length new.words.items ≡ length m.next.words.items → HasEntered g s word closer d (record m { next = new })
+    pub entered_next : (new : Waiting) (closer : Bool) → closer ≡ false → HasAdded m.next new s entered → length new.words.items ≡ length m.next.words.items
+        → HasEntered g s word closer d (record m { next = new })
     entered_next new closer on_next added fits = record {
       kept = record {
         goal = looked.kept.goal;
