@@ -5,3 +5,4 @@ pub mod SpreadLemmas
 pub mod FloodLemmas
 pub mod AimLemmas
 pub mod MarkLemmas
+pub mod SpanLemmas

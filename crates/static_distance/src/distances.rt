@@ -171,7 +171,7 @@ impl Distances {
         ensures looked { HasLooked grid.now span self.old self.new }
     {
         let number = span.number as usize;
-        if self.known.get(number) != 0 {
+        if self.known.get(number) == 1 {
             return;
         }
         self.free[number] = open_places(cells_of(grid, span));
