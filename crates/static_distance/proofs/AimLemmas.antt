@@ -1,18 +1,23 @@
 -- Where nothing is counted: at a new aim.
 use Rattle.std.proofs.Common.{◌≡◌, ℕ, zero, suc, ◌+◌, ◌*◌, ◌<◌, ◌≤◌, inl, inr, List, [], ◌∷◌, length, Some, refl, sym, ap, subst, ◌∙◌, arith, replicate}
-use Rattle.std.specs.Prelude.{slice_get}
+use Rattle.std.specs.Prelude.{slice_get, ◌↔◌, ◌⊎◌}
 use Rattle.std.proofs.lemmas.Option.{same_Some, none-some}
 use Rattle.std.proofs.lemmas.List.{length-replicate}
 use Rattle.fleet_base.specs.declared.grid.Cell.{Cell}
 use Rattle.fleet_base.specs.Terrain.{Terrain, IsOpen}
+use Rattle.row_words.specs.Words.{IsSet}
 use Rattle.static_distance.specs.declared.span.Span.{Span}
+use Rattle.static_distance.specs.declared.waiting.Waiting.{Waiting}
+use Rattle.static_distance.specs.Waiting.{HasAdded}
 use Rattle.static_distance.specs.declared.place.Place.{Place}
 use Rattle.static_distance.specs.declared.distances.Distances.{Distances}
 use Rattle.static_distance.specs.Levels.{IsCounted, apart, uncounted}
 use Rattle.static_distance.specs.Spreading.{IsFlood}
-use Rattle.static_distance.specs.Spans.{stride, Stands, AreListed, AreSpans, flood_of}
-use Rattle.static_distance.specs.Aim.{waiting, work, AreFitting, IsAimed}
+use Rattle.static_distance.specs.Spans.{stride, IsSpan, IsCellAt, Stands, AreListed, AreSpans, flood_of}
+use Rattle.static_distance.specs.Aim.{waiting, work, AreFitting, IsAimed, HasLooked}
 use Rattle.static_distance.proofs.SpreadLemmas.{begun_flood}
+use Rattle.static_distance.proofs.FloodLemmas.{cell_once}
+use Rattle.static_distance.proofs.SpanLemmas.{span_within, added_stands, added_only, spans_here}
 
 -- A list of zeros.
 pub zeros : (n i k : ℕ) → slice_get (replicate n 0) i ≡ Some (suc k) → ⊥
@@ -59,3 +64,31 @@ module _ (g : Terrain) (d : Distances) (cells spans : ℕ) (marks_are : d.marks 
   pub closed_flood : d.level ≡ apart g d.toward d.goal → (IsOpen g d.goal → ⊥) → IsFlood g (flood_of g d)
   closed_flood level closed =
       begun_flood g (flood_of g d) level none_counted (λ c stands. absurd (none_stands d.here.words.items c stands)) (λ opened. absurd (closed opened)) (λ c stands. none_stands d.next.words.items c stands)
+
+-- The goal is open: it alone waits, in its span.
+module _ (g : Terrain) (b m : Distances) (s : Span) (word i : ℕ) (new : Waiting) (cells spans : ℕ) (marks_are : b.marks ≡ replicate cells 0) (known_are : b.known ≡ replicate spans 0)
+    (is : IsSpan g s) (looked : HasLooked g s b m) (added : HasAdded m.here new s word) (fits : length new.words.items ≡ length m.here.words.items)
+    (at : IsCellAt g s i b.goal) (alone : (j : ℕ) → IsSet word j ↔ (j ≡ i)) (opened : IsOpen g b.goal) where
+  within : s.number < length new.words.items
+  within = span_within g s new.words.items is (fits ∙ looked.spans.here_fit)
+
+  pub open_spans : AreSpans g (record m { here = new })
+  open_spans = spans_here g m s word is looked.spans looked.known new added fits
+
+  goal_waits : Stands g m.known new.words.items b.goal
+  goal_waits = added_stands g m.known m.here new s word is looked.known added within b.goal (i, (alone i).1 refl, at)
+
+  only_goal : (c : Cell) → Stands g m.known new.words.items c → c ≡ b.goal
+  only_goal c stands = elim (added_only g m.known m.here new s word is looked.known added within c stands) [
+    | inl earlier ↦ absurd (none_stands g b cells spans marks_are known_are b.here.words.items c (looked.here_only c earlier))
+    | inr held ↦ cell_once g s i c b.goal (subst (λ (j : ℕ). IsCellAt g s j c) ((alone held.0).0 held.1) held.2) at
+  ]
+
+  pub open_flood : b.level ≡ apart g b.toward b.goal → IsFlood g (flood_of g (record m { here = new }))
+  open_flood level =
+      begun_flood g (flood_of g (record m { here = new }))
+      (looked.kept.level ∙ (level ∙ (ap (λ (p : Place). apart g p b.goal) (sym looked.kept.toward) ∙ ap (λ (c : Cell). apart g m.toward c) (sym looked.kept.goal))))
+      (λ c k counted. none_counted g b cells spans marks_are known_are c k (rw looked.kept.marks at counted))
+      (λ c stands. (let same = only_goal c stands in (same ∙ sym looked.kept.goal, subst (λ (z : Cell). IsOpen g z) (sym same) opened)))
+      (λ open_goal. subst (λ (z : Cell). Stands g m.known new.words.items z) (sym looked.kept.goal) goal_waits)
+      (λ c stands. none_stands g b cells spans marks_are known_are b.next.words.items c (looked.next_only c stands))

@@ -59,7 +59,7 @@ step_left : (g : Terrain) (s : Span) (i : ℕ) (toward : Place) (c d : Cell) →
 step_left g s i toward c d (inside, at) (inside', at') less = omega (arith, apart_at g toward c (s.column + (i + 1)) s.row at, apart_at g toward d (s.column + i) s.row at')
 
 -- one place has one cell
-cell_once : (g : Terrain) (s : Span) (i : ℕ) (c d : Cell) → IsCellAt g s i c → IsCellAt g s i d → c ≡ d
+pub cell_once : (g : Terrain) (s : Span) (i : ℕ) (c d : Cell) → IsCellAt g s i c → IsCellAt g s i d → c ≡ d
 cell_once g s i c d (inside, (wide, high, is)) (inside', (wide', high', is')) = same_cells c d (is ∙ sym is')
 
 -- a cell is counted or not

@@ -1,14 +1,40 @@
+use Rattle.std.specs.Prelude.{Vec, ◌-◌, ◌<◌}
+use Rattle.std.specs.Global.{Global}
 use Rattle.std.proofs.Common.{arith, ap, sym, subst, ◌∙◌, ◌≡◌, ℕ, ◌*◌, ◌++◌, ◌∷◌, [], List, length, inl, inr, refl}
 use Rattle.std.proofs.lemmas.List.{length-replicate}
 use Rattle.static_distance.specs.declared.distances.Distances.{Distances}
 use Rattle.static_distance.specs.Levels.{apart, uncounted}
-use Rattle.static_distance.specs.Spans.{stride}
-use Rattle.static_distance.specs.Aim.{AreFitting}
-use Rattle.static_distance.proofs.AimLemmas.{all_uncounted, fresh_spans, closed_flood}
+use Rattle.static_distance.specs.declared.place.Place.{Place}
+use Rattle.static_distance.specs.declared.span.Span.{Span}
+use Rattle.static_distance.specs.Spans.{stride, IsCellAt}
+use Rattle.static_distance.specs.Aim.{AreFitting, HasLooked}
+use Rattle.static_distance.proofs.AimLemmas.{all_uncounted, fresh_spans, closed_flood, open_spans, open_flood}
 use Rattle.static_distance.proofs.distances.Distances.aim.Goals as goal
 
 pub returns-in_ok-add-clause-aimed : goal.returns-in_ok-add-clause-aimed
-returns-in_ok-add-clause-aimed c = ?
+returns-in_ok-add-clause-aimed c =
+    let g = c.args.grid.now in
+    let cells = length c.fit.new.self.marks in
+    let spans = length c.fit.new.self.known in
+    let d : Distances = record {
+      alloc = c.fit.new.self.alloc; goal = c.args.goal; toward = c.place_of-self.result; marks = c.clear.new.self; known = c.clear-2.new.self; free = c.fit.new.self.free; level = c.moves_between-self.result;
+      here = record { words = c.fit.new.self.here.words; spans = c.clear-3.new.self }; next = record { words = c.fit.new.self.next.words; spans = c.clear-4.new.self };
+    } in
+    let looked : HasLooked g c.span_at-span.result d c.look_at.new.self = c.look_at.ensures.looked in
+    let place : IsCellAt g c.span_at-span.result (c.place_of-place.result.column - c.span_at-span.result.column) c.args.goal = c.span_at-span.ensures.held in
+    let on_level : c.moves_between-self.result ≡ apart g c.place_of-self.result c.args.goal = omega (arith, c.moves_between-self.ensures.moves, c.place_of-place.ensures.place) in
+    let all : uncounted c.look_at.new.self.marks ≡ cells = ap uncounted (looked.kept.marks ∙ c.clear.ensures) ∙ all_uncounted cells in
+    let cells_are : cells ≡ length g.cells = ap length c.in_ok-fit.ensures.marks ∙ c.requires.room in
+    let none : length c.look_at.new.self.next.spans.items ≡ 0 = ap (λ (v : Vec Span Global). length v.items) looked.next_spans ∙ ap length c.clear-4.ensures.items in
+    let none_here : length c.look_at.new.self.here.spans.items ≡ 0 = ap (λ (v : Vec Span Global). length v.items) looked.here_spans ∙ ap length c.clear-3.ensures.items in
+    record {
+      near = subst (λ (p : Place). (p.column < 2048) × (p.row < 2048)) (sym looked.kept.toward) c.place_of-self.ensures.near;
+      bounded = omega (arith, c.moves_between-self.ensures.few, c.requires.room, c.cells-limits.ensures.limits.area, c.cells-limits.ensures.limits.full, looked.kept.level, c.in_ok-add.ensures.more);
+      spans = open_spans g d c.look_at.new.self c.span_at-span.result c.single.result (c.place_of-place.result.column - c.span_at-span.result.column) c.add.new.self cells spans c.clear.ensures c.clear-2.ensures
+          c.span_at-span.ensures.span looked c.in_ok-add.ensures.added c.add.ensures.words place c.single.ensures (c.if-is_open.ensures.0 refl);
+      flood = open_flood g d c.look_at.new.self c.span_at-span.result c.single.result (c.place_of-place.result.column - c.span_at-span.result.column) c.add.new.self cells spans c.clear.ensures c.clear-2.ensures
+          c.span_at-span.ensures.span looked c.in_ok-add.ensures.added c.add.ensures.words place c.single.ensures (c.if-is_open.ensures.0 refl) on_level;
+    }
 
 pub returns-else-is_open-clause-aimed : goal.returns-else-is_open-clause-aimed
 returns-else-is_open-clause-aimed c =
