@@ -2,4 +2,5 @@ pub mod Ways
 pub mod Places
 pub mod LevelLemmas
 pub mod SpreadLemmas
+pub mod SpanLemmas
 pub mod MarkLemmas
