@@ -4,5 +4,5 @@ pub mod LevelLemmas
 pub mod SpreadLemmas
 pub mod FloodLemmas
 pub mod AimLemmas
-pub mod MarkLemmas
 pub mod SpanLemmas
+pub mod MarkLemmas

@@ -209,6 +209,7 @@ impl Distances {
         requires span { IsSpan grid.now span }
         requires known { slice_get self.old.known span.number ≡ Some 1 }
         requires near { (self.old.toward.column < 2048) × (self.old.toward.row < 2048) }
+        requires bounded { self.old.level ≤ 16777216 }
         requires spans { AreSpans grid.now self.old }
         requires flood { IsFlood grid.now (flood_with grid.now self.old span seeds) }
         ensures aim { KeepsAim self.old self.new }
@@ -253,6 +254,7 @@ impl Distances {
         requires span { IsSpan grid.now span }
         requires near { (self.old.toward.column < 2048) × (self.old.toward.row < 2048) }
         requires known { slice_get self.old.known span.number ≡ Some 1 }
+        requires bounded { self.old.level ≤ 16777216 }
         requires spans { AreSpans grid.now self.old }
         requires some { word ≢ 0 }
         requires free { (i : ℕ) → IsSet word i → (w : ℕ) → slice_get self.old.free.items span.number ≡ Some w → IsSet w i }
@@ -261,6 +263,7 @@ impl Distances {
         ensures spans { AreSpans grid.now self.new }
         ensures less { uncounted self.new.marks + 1 ≤ uncounted self.old.marks }
     {
+        let _limits = grid.cells();
         let number = span.number as usize;
         let reach = self.level - span.row.abs_diff(self.toward.row);
         mark_all(&mut self.marks, grid.width() * span.row + span.column, word, span.column, self.toward.column, reach);
