@@ -2,3 +2,4 @@ pub mod Ways
 pub mod Places
 pub mod LevelLemmas
 pub mod SpreadLemmas
+pub mod SideLemmas

@@ -11,10 +11,10 @@ use Rattle.fleet_base.proofs.GridLemmas.{placed}
 use Rattle.static_distance.specs.declared.place.Place.{Place}
 use Rattle.static_distance.specs.Levels.{IsPlaceOf, gap, apart}
 
-column_at : (g : Terrain) (c : Cell) (x y : ℕ) → IsAt g c x y → c.0 % g.width ≡ x
+pub column_at : (g : Terrain) (c : Cell) (x y : ℕ) → IsAt g c x y → c.0 % g.width ≡ x
 column_at g c x y (inside, high, is) = rw is (mod-mul-add y g.width x inside)
 
-row_at : (g : Terrain) (c : Cell) (x y : ℕ) → IsAt g c x y → c.0 / g.width ≡ y
+pub row_at : (g : Terrain) (c : Cell) (x y : ℕ) → IsAt g c x y → c.0 / g.width ≡ y
 row_at g c x y (inside, high, is) = rw is (div-mul-add y g.width x inside)
 
 -- a cell is where its place says
@@ -28,7 +28,7 @@ none_right g c d place of last (x, y, at, to) =
     omega (arith, to.0)
 
 -- the distance to a place from column x and row y
-apart_at : (g : Terrain) (toward : Place) (c : Cell) (x y : ℕ) → IsAt g c x y → apart g toward c ≡ gap x toward.column + gap y toward.row
+pub apart_at : (g : Terrain) (toward : Place) (c : Cell) (x y : ℕ) → IsAt g c x y → apart g toward c ≡ gap x toward.column + gap y toward.row
 apart_at g toward c x y at =
     ap (λ (n : ℕ). gap n toward.column + gap (c.0 / g.width) toward.row) (column_at g c x y at) ∙ ap (λ (n : ℕ). gap x toward.column + gap n toward.row) (row_at g c x y at)
 
