@@ -193,3 +193,184 @@ module _ (g : Terrain) (s t : Span) (word : ℕ) (old new : Distances) (is : IsS
         let to : IsAt g n (s.column + i) (s.row + 1) = under_at g c n (s.column + i) s.row at beside in
         (nat_lt s.row old.toward.row, (refl, (i, set, (below, same_at g n (s.column + i) (s.row + 1) (t.column + i) t.row (omega arith) (sym row) to)), free),
          step_to g old.toward c n (s.column + i) s.row at Down beside))
+
+-- ---- in the row
+
+-- the places of the word from which the next lesser column is farther, each moved there
+pub away_left : (word near far away column toward : ℕ) → word < 2 ^ 64 → ((i : ℕ) → IsSet near i ↔ ((i < 64) × (toward < column + i)))
+    → ((i : ℕ) → IsSet far i ↔ (IsSet word i × ¬ (IsSet near i))) → ((i : ℕ) → IsSet away i ↔ IsSet far (i + 1))
+    → (i : ℕ) → IsSet away i ↔ (IsSet word (i + 1) × (column + (i + 1) ≤ toward))
+away_left word near far away column toward fits near_is far_is away_is i =
+    (λ set. (let parts : IsSet word (i + 1) × ¬ (IsSet near (i + 1)) = (far_is (i + 1)).0 ((away_is i).0 set) in
+      (parts.0, elim (cases_lt toward (column + (i + 1))) [
+        | inl less ↦ absurd (parts.1 ((near_is (i + 1)).1 (set_below word (i + 1) fits parts.0, less)))
+        | inr more ↦ more
+      ])),
+     λ (set, more). (away_is i).1 ((far_is (i + 1)).1 (set, λ near_set. (let less = ((near_is (i + 1)).0 near_set).1 in omega arith))))
+
+-- the places of the word from which the next greater column is farther, each moved there
+pub away_right : (word near far away column toward : ℕ) → word < 2 ^ 64 → ((i : ℕ) → IsSet near i ↔ ((i < 64) × (column + i < toward)))
+    → ((i : ℕ) → IsSet far i ↔ (IsSet word i × ¬ (IsSet near i))) → ((i : ℕ) → IsSet away i ↔ ((j : ℕ) × (i ≡ j + 1) × (i < 64) × IsSet far j))
+    → (i : ℕ) → IsSet away i ↔ ((j : ℕ) × (i ≡ j + 1) × (i < 64) × IsSet word j × (toward ≤ column + j))
+away_right word near far away column toward fits near_is far_is away_is i =
+    (λ set. (let moved : (j : ℕ) × (i ≡ j + 1) × (i < 64) × IsSet far j = (away_is i).0 set in
+      let parts : IsSet word moved.0 × ¬ (IsSet near moved.0) = (far_is moved.0).0 moved.3 in
+      (moved.0, moved.1, moved.2, parts.0, elim (cases_lt (column + moved.0) toward) [
+        | inl less ↦ absurd (parts.1 ((near_is moved.0).1 (set_below word moved.0 fits parts.0, less)))
+        | inr more ↦ more
+      ])),
+     λ (j, after, below, set, more). (away_is i).1 (j, after, below, (far_is j).1 (set, λ near_set. (let less = ((near_is j).0 near_set).1 in omega arith))))
+
+-- Left: the cells of the word from which the lesser column is closer lead to no free cell of the span.
+module _ (g : Terrain) (s : Span) (word away : ℕ) (old : Distances) (is : IsSpan g s) (inside : (i : ℕ) → IsSet word i → s.column + i < g.width)
+    (fits : word < 2 ^ 64) (shut : IsShut g Left s word old) (away_is : (i : ℕ) → IsSet away i ↔ (IsSet word (i + 1) × (s.column + (i + 1) ≤ old.toward.column))) where
+  left_from : (n : Cell) → Holds g s away n → IsFree g old.marks n → IsLed g Left s word old false n
+  left_from n (i, set, (below, at)) free =
+      let parts : IsSet word (i + 1) × (s.column + (i + 1) ≤ old.toward.column) = (away_is i).0 set in
+      let c : Cell = record { 0 = s.row * g.width + (s.column + (i + 1)) } in
+      let from : IsAt g c (s.column + (i + 1)) s.row = (inside (i + 1) parts.0, is.row_in, refl) in
+      let beside : IsBeside g Left c n = (s.column + i, s.row, same_at g c (s.column + (i + 1)) s.row (s.column + i + 1) s.row (omega arith) refl from, at) in
+      record {
+        from = c;
+        held = (i + 1, parts.0, (set_below word (i + 1) fits parts.0, from));
+        beside = beside;
+        free = free;
+        step = left_farther g old.toward c n (s.column + (i + 1)) s.row from beside parts.1;
+      }
+
+  left_to : (c n : Cell) (i : ℕ) → IsSet word (i + 1) → IsCellAt g s (i + 1) c → IsBeside g Left c n → IsFree g old.marks n
+      → Holds g s away n × IsStep g old.toward false c n
+  left_to c n i set (below, at) beside free =
+      let to : IsAt g n (s.column + i) s.row = before_at g c n (s.column + i) s.row (same_at g c (s.column + (i + 1)) s.row (s.column + i + 1) s.row (omega arith) refl at) beside in
+      let held : IsCellAt g s i n = (omega arith, to) in
+      elim (cases_lt old.toward.column (s.column + (i + 1))) [
+        | inl less ↦ absurd (shut c n (i + 1, set, (below, at)) beside free (left_closer g old.toward c n (s.column + (i + 1)) s.row at beside less) i held)
+        | inr more ↦ ((i, (away_is i).1 (set, more), held), left_farther g old.toward c n (s.column + (i + 1)) s.row at beside more)
+      ]
+
+  -- where no cell of the word leads out of the span
+  pub spread_left_within : (new : Distances) → (s.column ≡ 0) ⊎ (¬ (IsSet word 0)) → HasEntered g s away false old new → HasSpreadTo g Left s word old new
+  spread_left_within new edge has = spread_more g Left s word (λ on n. Enters g s away false old.marks on n) old new (more_entered g s away false old new has)
+      (λ on n (closer, held, free). subst (λ (b : Bool). IsLed g Left s word old b n) closer (left_from n held free))
+      (λ c n (i, set, (below, at)) beside free. elim (cases_eq i 0) [
+        | inl first ↦ absurd (elim edge [
+            | inl none ↦ (let same = at_once g c (s.column + i) s.row (beside.0 + 1) beside.1 at beside.2 in omega (arith, same.0))
+            | inr clear ↦ clear (subst (λ (k : ℕ). IsSet word k) first set)
+          ])
+        | inr later ↦
+            let after : i ≡ i - 1 + 1 = omega arith in
+            let both = left_to c n (i - 1) (subst (λ (k : ℕ). IsSet word k) after set) (subst (λ (k : ℕ). IsCellAt g s k c) after (below, at)) beside free in
+            (false, (refl, both.0, free), both.1)
+      ])
+
+  -- t is the span before s, and the first cell of s leads to the last one of t
+  pub spread_left_out : (t : Span) (last : ℕ) (between new : Distances) → t.row ≡ s.row → t.column + 64 ≡ s.column → IsSet word 0 → ((i : ℕ) → IsSet last i ↔ (i ≡ 63))
+      → HasEntered g s away false old between → HasEntered g t last (nat_lt between.toward.column s.column) between new → HasSpreadTo g Left s word old new
+  spread_left_out t last between new row column first last_is has has_out = spread_more g Left s word
+      (λ on n. Enters g s away false old.marks on n ⊎ Enters g t last (nat_lt between.toward.column s.column) between.marks on n) old new
+      (more_twice g (λ on n. Enters g s away false old.marks on n) (λ on n. Enters g t last (nat_lt between.toward.column s.column) between.marks on n) old between new
+        (more_entered g s away false old between has) (more_entered g t last (nat_lt between.toward.column s.column) between new has_out))
+      (λ on n more. elim more [
+        | inl (closer, held, free) ↦ subst (λ (b : Bool). IsLed g Left s word old b n) closer (left_from n held free)
+        | inr (closer, (i, set, (below, at)), free) ↦
+            let place : i ≡ 63 = (last_is i).0 set in
+            let c : Cell = record { 0 = s.row * g.width + s.column } in
+            let from : IsAt g c s.column s.row = (is.column_in, is.row_in, refl) in
+            let beside : IsBeside g Left c n = (t.column + i, t.row, same_at g c s.column s.row (t.column + i + 1) t.row (omega arith) (sym row) from, at) in
+            record {
+              from = c;
+              held = (0, first, (omega arith, same_at g c s.column s.row (s.column + 0) s.row (omega arith) refl from));
+              beside = beside;
+              free = subst (λ (marks : List ℕ). IsFree g marks n) has.kept.marks free;
+              step = subst (λ (b : Bool). IsStep g old.toward b c n) closer
+                  (subst (λ (p : Place). IsStep g old.toward (nat_lt p.column s.column) c n) (sym has.kept.toward) (step_to g old.toward c n s.column s.row from Left beside));
+            }
+      ])
+      (λ c n (i, set, (below, at)) beside free. elim (cases_eq i 0) [
+        | inl place ↦
+            let from : IsAt g c s.column s.row = same_at g c (s.column + i) s.row s.column s.row (omega arith) refl at in
+            let to : IsAt g n (t.column + 63) s.row = before_at g c n (t.column + 63) s.row (same_at g c s.column s.row (t.column + 63 + 1) s.row (omega arith) refl from) beside in
+            (nat_lt between.toward.column s.column,
+             inr (refl, (63, (last_is 63).1 refl, (omega arith, same_at g n (t.column + 63) s.row (t.column + 63) t.row refl (sym row) to)),
+               subst (λ (marks : List ℕ). IsFree g marks n) (sym has.kept.marks) free),
+             subst (λ (p : Place). IsStep g old.toward (nat_lt p.column s.column) c n) (sym has.kept.toward) (step_to g old.toward c n s.column s.row from Left beside))
+        | inr later ↦
+            let after : i ≡ i - 1 + 1 = omega arith in
+            let both = left_to c n (i - 1) (subst (λ (k : ℕ). IsSet word k) after set) (subst (λ (k : ℕ). IsCellAt g s k c) after (below, at)) beside free in
+            (false, inl (refl, both.0, free), both.1)
+      ])
+
+-- Right: the cells of the word from which the greater column is closer lead to no free cell of the span.
+module _ (g : Terrain) (s : Span) (word away : ℕ) (old : Distances) (is : IsSpan g s) (shut : IsShut g Right s word old)
+    (away_is : (i : ℕ) → IsSet away i ↔ ((j : ℕ) × (i ≡ j + 1) × (i < 64) × IsSet word j × (old.toward.column ≤ s.column + j))) where
+  right_from : (n : Cell) → Holds g s away n → IsFree g old.marks n → IsLed g Right s word old false n
+  right_from n (i, set, (below, at)) free =
+      let parts : (j : ℕ) × (i ≡ j + 1) × (i < 64) × IsSet word j × (old.toward.column ≤ s.column + j) = (away_is i).0 set in
+      let after : i ≡ parts.0 + 1 = parts.1 in
+      let c : Cell = record { 0 = s.row * g.width + (s.column + parts.0) } in
+      let within : s.column + parts.0 < g.width = omega (arith, at.0) in
+      let from : IsAt g c (s.column + parts.0) s.row = (within, is.row_in, refl) in
+      let beside : IsBeside g Right c n = (s.column + parts.0, s.row, from, same_at g n (s.column + i) s.row (s.column + parts.0 + 1) s.row (omega arith) refl at) in
+      record {
+        from = c;
+        held = (parts.0, parts.3, (omega arith, from));
+        beside = beside;
+        free = free;
+        step = right_farther g old.toward c n (s.column + parts.0) s.row from beside parts.4;
+      }
+
+  right_to : (c n : Cell) (i : ℕ) → IsSet word i → IsCellAt g s i c → i + 1 < 64 → IsBeside g Right c n → IsFree g old.marks n
+      → Holds g s away n × IsStep g old.toward false c n
+  right_to c n i set (below, at) room beside free =
+      let to : IsAt g n (s.column + (i + 1)) s.row = same_at g n (s.column + i + 1) s.row (s.column + (i + 1)) s.row (omega arith) refl (after_at g c n (s.column + i) s.row at beside) in
+      elim (cases_lt (s.column + i) old.toward.column) [
+        | inl less ↦ absurd (shut c n (i, set, (below, at)) beside free (right_closer g old.toward c n (s.column + i) s.row at beside less) (i + 1) (room, to))
+        | inr more ↦ ((i + 1, (away_is (i + 1)).1 (i, refl, room, set, more), (room, to)), right_farther g old.toward c n (s.column + i) s.row at beside more)
+      ]
+
+  -- where no cell of the word leads out of the span
+  pub spread_right_within : (new : Distances) → (g.width ≤ s.column + 64) ⊎ (¬ (IsSet word 63)) → HasEntered g s away false old new → HasSpreadTo g Right s word old new
+  spread_right_within new edge has = spread_more g Right s word (λ on n. Enters g s away false old.marks on n) old new (more_entered g s away false old new has)
+      (λ on n (closer, held, free). subst (λ (b : Bool). IsLed g Right s word old b n) closer (right_from n held free))
+      (λ c n (i, set, (below, at)) beside free. elim (cases_eq i 63) [
+        | inl last ↦ absurd (elim edge [
+            | inl none ↦ (let to : IsAt g n (s.column + i + 1) s.row = after_at g c n (s.column + i) s.row at beside in omega (arith, to.0))
+            | inr clear ↦ clear (subst (λ (k : ℕ). IsSet word k) last set)
+          ])
+        | inr other ↦ (let both = right_to c n i set (below, at) (omega arith) beside free in (false, (refl, both.0, free), both.1))
+      ])
+
+  -- t is the span after s, and the last cell of s leads to the first one of t
+  pub spread_right_out : (t : Span) (first : ℕ) (between new : Distances) → t.row ≡ s.row → t.column ≡ s.column + 64 → IsSet word 63 → ((i : ℕ) → IsSet first i ↔ (i ≡ 0))
+      → HasEntered g s away false old between → HasEntered g t first (nat_lt (s.column + 63) between.toward.column) between new → HasSpreadTo g Right s word old new
+  spread_right_out t first between new row column last first_is has has_out = spread_more g Right s word
+      (λ on n. Enters g s away false old.marks on n ⊎ Enters g t first (nat_lt (s.column + 63) between.toward.column) between.marks on n) old new
+      (more_twice g (λ on n. Enters g s away false old.marks on n) (λ on n. Enters g t first (nat_lt (s.column + 63) between.toward.column) between.marks on n) old between new
+        (more_entered g s away false old between has) (more_entered g t first (nat_lt (s.column + 63) between.toward.column) between new has_out))
+      (λ on n more. elim more [
+        | inl (closer, held, free) ↦ subst (λ (b : Bool). IsLed g Right s word old b n) closer (right_from n held free)
+        | inr (closer, (i, set, (below, at)), free) ↦
+            let place : i ≡ 0 = (first_is i).0 set in
+            let c : Cell = record { 0 = s.row * g.width + (s.column + 63) } in
+            let within : s.column + 63 < g.width = omega (arith, at.0) in
+            let from : IsAt g c (s.column + 63) s.row = (within, is.row_in, refl) in
+            let beside : IsBeside g Right c n = (s.column + 63, s.row, from, same_at g n (t.column + i) t.row (s.column + 63 + 1) s.row (omega arith) row at) in
+            record {
+              from = c;
+              held = (63, last, (omega arith, from));
+              beside = beside;
+              free = subst (λ (marks : List ℕ). IsFree g marks n) has.kept.marks free;
+              step = subst (λ (b : Bool). IsStep g old.toward b c n) closer
+                  (subst (λ (p : Place). IsStep g old.toward (nat_lt (s.column + 63) p.column) c n) (sym has.kept.toward) (step_to g old.toward c n (s.column + 63) s.row from Right beside));
+            }
+      ])
+      (λ c n (i, set, (below, at)) beside free. elim (cases_eq i 63) [
+        | inl place ↦
+            let from : IsAt g c (s.column + 63) s.row = same_at g c (s.column + i) s.row (s.column + 63) s.row (omega arith) refl at in
+            let to : IsAt g n (s.column + 63 + 1) s.row = after_at g c n (s.column + 63) s.row from beside in
+            (nat_lt (s.column + 63) between.toward.column,
+             inr (refl, (0, (first_is 0).1 refl, (omega arith, same_at g n (s.column + 63 + 1) s.row (t.column + 0) t.row (omega arith) (sym row) to)),
+               subst (λ (marks : List ℕ). IsFree g marks n) (sym has.kept.marks) free),
+             subst (λ (p : Place). IsStep g old.toward (nat_lt (s.column + 63) p.column) c n) (sym has.kept.toward) (step_to g old.toward c n (s.column + 63) s.row from Right beside))
+        | inr other ↦ (let both = right_to c n i set (below, at) (omega arith) beside free in (false, inl (refl, both.0, free), both.1))
+      ])
