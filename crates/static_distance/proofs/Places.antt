@@ -28,7 +28,7 @@ none_right g c d place of last (x, y, at, to) =
     omega (arith, to.0)
 
 -- the distance to a place from column x and row y
-pub apart_at : (g : Terrain) (toward : Place) (c : Cell) (x y : ℕ) → IsAt g c x y → apart g toward c ≡ gap x toward.column + gap y toward.row
+apart_at : (g : Terrain) (toward : Place) (c : Cell) (x y : ℕ) → IsAt g c x y → apart g toward c ≡ gap x toward.column + gap y toward.row
 apart_at g toward c x y at =
     ap (λ (n : ℕ). gap n toward.column + gap (c.0 / g.width) toward.row) (column_at g c x y at) ∙ ap (λ (n : ℕ). gap x toward.column + gap n toward.row) (row_at g c x y at)
 

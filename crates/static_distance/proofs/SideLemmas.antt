@@ -1,5 +1,5 @@
 -- From the cells of a span to those beside them.
-use Rattle.std.proofs.Common.{◌≡◌, ℕ, ◌+◌, ◌-◌, ◌*◌, ◌/◌, ◌%◌, ◌^◌, ◌<◌, ◌≤◌, ◌⊎◌, ◌↔◌, inl, inr, Bool, true, false, nat_lt, List, refl, sym, ◌∙◌, subst, arith}
+use Rattle.std.proofs.Common.{◌≡◌, ℕ, ◌+◌, ◌-◌, ◌*◌, ◌^◌, ◌<◌, ◌≤◌, ◌⊎◌, ◌↔◌, inl, inr, Bool, true, false, nat_lt, List, Some, slice_get, refl, sym, ◌∙◌, subst, arith}
 use Rattle.std.proofs.lemmas.Bool.{ltb-true, ltb-false, cases_lt, cases_eq}
 use Rattle.fleet_base.specs.declared.grid.Cell.{Cell}
 use Rattle.fleet_base.specs.declared.grid.Side.{Side}
@@ -10,8 +10,8 @@ use Rattle.row_words.proofs.WordLemmas.{set_below}
 use Rattle.static_distance.specs.declared.place.Place.{Place}
 use Rattle.static_distance.specs.declared.span.Span.{Span}
 use Rattle.static_distance.specs.declared.distances.Distances.{Distances}
-use Rattle.static_distance.specs.Levels.{IsPlaceOf, apart}
-use Rattle.static_distance.specs.Spans.{IsSpan, IsCellAt, Holds, Stands, IsFree, KeepsWaiting, HasEntered, IsStep, IsLed, HasSpreadTo, IsShut}
+use Rattle.static_distance.specs.Levels.{IsPlaceOf}
+use Rattle.static_distance.specs.Spans.{IsSpan, IsCellAt, Holds, Stands, IsFree, AreSpans, KeepsWaiting, HasEntered, IsStep, IsLed, HasSpreadTo, IsShut}
 use Rattle.static_distance.proofs.Places.{column_at, row_at, closer_up, farther_up, closer_left, farther_left, closer_right, farther_right, closer_down, farther_down}
 
 -- ---- columns and rows
@@ -220,6 +220,11 @@ away_right word near far away column toward fits near_is far_is away_is i =
         | inr more ↦ more
       ])),
      λ (j, after, below, set, more). (away_is i).1 (j, after, below, (far_is j).1 (set, λ near_set. (let less = ((near_is j).0 near_set).1 in omega arith))))
+
+-- places of free cells are within the row
+pub free_inside : (g : Terrain) (s : Span) (word free : ℕ) (d : Distances) → IsSpan g s → AreSpans g d → slice_get d.known s.number ≡ Some 1
+    → slice_get d.free.items s.number ≡ Some free → word < 2 ^ 64 → ((i : ℕ) → IsSet word i → IsSet free i) → (i : ℕ) → IsSet word i → s.column + i < g.width
+free_inside g s word free d is are known at fits within i set = (are.free_only s free i is known at (within i set) (set_below word i fits set)).1.1.0
 
 -- Left: the cells of the word from which the lesser column is closer lead to no free cell of the span.
 module _ (g : Terrain) (s : Span) (word away : ℕ) (old : Distances) (is : IsSpan g s) (inside : (i : ℕ) → IsSet word i → s.column + i < g.width)

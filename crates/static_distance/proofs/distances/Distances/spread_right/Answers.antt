@@ -1,4 +1,4 @@
-use Rattle.std.proofs.Common.{◌≡◌, ℕ, ◌+◌, ◌≤◌, ◌<◌, inl, inr, refl, arith}
+use Rattle.std.proofs.Common.{◌+◌, inl, inr, refl, arith}
 use Rattle.std.proofs.lemmas.Bool.{iff_false}
 use Rattle.std.proofs.lemmas.Result.{on_ok_weaker}
 use Rattle.static_distance.proofs.SideLemmas.{away_right, spread_right_within, spread_right_out}
