@@ -6,3 +6,4 @@ pub mod FloodLemmas
 pub mod AimLemmas
 pub mod SpanLemmas
 pub mod MarkLemmas
+pub mod SideLemmas

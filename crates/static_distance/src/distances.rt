@@ -307,6 +307,7 @@ impl Distances {
         requires span { IsSpan grid.now span }
         requires spans { AreSpans grid.now self.old }
         requires near { self.old.toward.column < 2048 }
+        requires inside { (i : ℕ) → IsSet word i → span.column + i < grid.now.width }
         requires shut { IsShut grid.now Left span word self.old }
         ensures spans { OnOk result (AreSpans grid.now self.new) }
         ensures count { OnOk result (waiting self.new ≤ waiting self.old + 2) }
