@@ -122,6 +122,29 @@ module _ (g : Terrain) (s : Span) (seeds free up down batch : ℕ) (old : Distan
         | inl none ↦ inl (i, filled.all i (begin seed (spans.free_all s free i c span known free_is at (opened, none))), at)
       ]
 
+  -- where the batch is empty all seeds were counted before
+  pub passed_spans : batch ≡ 0 → IsFlood g (flood_of g old)
+  passed_spans empty = spread_flood g (λ c. ⊥) before (flood_of g old) flood (record {
+    goal = refl;
+    toward = refl;
+    level = refl;
+    batch_well = λ c none. absurd none;
+    counted = λ c none k on_level. absurd none;
+    still = λ c k is. is;
+    only = λ c k is. inr is;
+    here_well = λ c stands. flood.here_well c (inl stands);
+    next_well = λ c stands. flood.next_well c stands;
+    here_kept = λ c waits. elim waits [
+      | inl stands ↦ inl stands
+      | inr seed ↦ inr (elim (seed_cases c seed) [
+          | inl held ↦ absurd (held_word g s batch c held empty)
+          | inr is ↦ is
+      ])
+    ];
+    next_kept = λ c stands. inl stands;
+    spread = λ c n side none beside opened. absurd none;
+  })
+
   -- After the batch is counted no free cell of its span is led to closer in the row.
   module _ (d1 d : Distances) (counted : HasCounted g s batch old d1) (marks_same : d.marks ≡ d1.marks) (toward_same : d.toward ≡ old.toward) where
     free_old : (n : Cell) → IsFree g d.marks n → IsFree g old.marks n

@@ -213,7 +213,7 @@ impl Distances {
         requires spans { AreSpans grid.now self.old }
         requires flood { IsFlood grid.now (flood_with grid.now self.old span seeds) }
         ensures aim { KeepsAim self.old self.new }
-        ensures level { self.new.level ≡ self.old.level }
+        ensures level { OnOk result (self.new.level ≡ self.old.level) }
         ensures spans { OnOk result (AreSpans grid.now self.new) }
         ensures flood { OnOk result (IsFlood grid.now (flood_of grid.now self.new)) }
         ensures work { OnOk result (work self.new ≤ work self.old) }

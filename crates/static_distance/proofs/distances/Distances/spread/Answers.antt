@@ -1,0 +1,36 @@
+use Rattle.std.proofs.Common.{◌≡◌, ◌+◌, ◌∙◌, ◌<◌, ◌≤◌, ◌^◌, ◌×◌, ℕ, Some, length, sym, ap, subst, refl, rules, arith, vec_len}
+use Rattle.std.specs.Prelude.{slice_get}
+use Rattle.std.proofs.lemmas.Option.{slice_get_read, same_Some}
+use Rattle.row_words.specs.Words.{IsSet}
+use Rattle.row_words.proofs.WordLemmas.{set_below}
+use Rattle.static_distance.proofs.SpanLemmas.{span_within}
+use Rattle.static_distance.proofs.SideLemmas.{free_inside}
+use Rattle.static_distance.proofs.FloodLemmas.{batch_free, batch_low, passed_spans, shut_left, shut_right, spread_spans}
+use Rattle.static_distance.proofs.distances.Distances.spread.Goals as goal
+
+pub returns-then-batch-eq0-clause-flood : goal.returns-then-batch-eq0-clause-flood
+returns-then-batch-eq0-clause-flood c =
+    let g = c.args.grid.now in
+    let now = c.args.self.now in
+    let free = c.index-free.result.now in
+    let at : slice_get now.free.items c.args.span.number ≡ Some free = slice_get_read now.free.items (vec_len now.free) c.args.span.number free (search rules) (search rules) c.index-free.ensures in
+    passed_spans g c.args.span c.args.seeds free c.rising.result c.falling.result c.filled-batch.result now c.requires.span c.requires.known c.requires.spans at (λ i set. set_below free i (search rules) set)
+    c.rising.ensures c.falling.ensures c.filled-batch.ensures c.requires.flood c.if-batch-eq0.true
+
+pub count-requires-clause-free : goal.count-requires-clause-free
+count-requires-clause-free c = ?
+
+pub count-requires-clause-on_level : goal.count-requires-clause-on_level
+count-requires-clause-on_level c = ?
+
+pub spread_left-requires-clause-inside : goal.spread_left-requires-clause-inside
+spread_left-requires-clause-inside c = ?
+
+pub spread_left-requires-clause-shut : goal.spread_left-requires-clause-shut
+spread_left-requires-clause-shut c = ?
+
+pub spread_right-requires-clause-shut : goal.spread_right-requires-clause-shut
+spread_right-requires-clause-shut c = ?
+
+pub returns-clause-flood : goal.returns-clause-flood
+returns-clause-flood c = ?
