@@ -1,8 +1,8 @@
 -- Spans: a cell has one span and one place there.
-use Rattle.std.proofs.Common.{◌≡◌, ℕ, ◌+◌, ◌*◌, ◌<◌, ◌≤◌, refl, sym, ap, ◌∙◌, arith}
+use Rattle.std.proofs.Common.{◌≡◌, ℕ, ◌+◌, ◌*◌, ◌<◌, sym, ap, ◌∙◌, arith}
 use Rattle.std.proofs.lemmas.Nat.{same_from_place}
 use Rattle.fleet_base.specs.declared.grid.Cell.{Cell}
-use Rattle.fleet_base.specs.Terrain.{Terrain, IsAt}
+use Rattle.fleet_base.specs.Terrain.{Terrain}
 use Rattle.static_distance.specs.declared.span.Span.{Span}
 use Rattle.static_distance.specs.Spans.{stride, IsSpan, IsCellAt}
 
