@@ -63,19 +63,9 @@ pub record IsMarking (old marks : List ℕ) (first word column toward reach left
   pub at_most : AreUncounted old first word → uncounted marks ≤ uncounted old
   pub fewer : AreUncounted old first word → (i : ℕ) → IsSet word i → ¬ (IsSet left i) → uncounted marks + 1 ≤ uncounted old
 
--- at the start all are left
-pub marking_begins : (marks : List ℕ) (first word column toward reach : ℕ) → IsMarking marks marks first word column toward reach word
-marking_begins marks first word column toward reach = record {
-  within = λ i set. set;
-  count = refl;
-  marked = λ i k set gone key. absurd (gone set);
-  others = λ n apart. refl;
-  at_most = λ free. omega arith;
-  fewer = λ free i set gone. absurd (gone set);
-}
-
 -- A word is left without one of its places.
-module _ (left place alone rest : ℕ) (mine : IsSet left place) (one : (i : ℕ) → IsSet alone i ↔ (i ≡ place)) (less : (i : ℕ) → IsSet rest i ↔ (IsSet left i × ¬ (IsSet alone i))) where
+module _ (left place alone rest : ℕ) (mine : IsSet left place) (one : (i : ℕ) → IsSet alone i ↔ (i ≡ place))
+    (less : (i : ℕ) → IsSet rest i ↔ (IsSet left i × ¬ (IsSet alone i))) where
   -- what is gone was gone before, or is that place
   gone_cases : (i : ℕ) → ¬ (IsSet rest i) → (i ≡ place) ⊎ (¬ (IsSet left i))
   gone_cases i gone = elim (cases_eq i place) [
@@ -94,8 +84,8 @@ module _ (left place alone rest : ℕ) (mine : IsSet left place) (one : (i : ℕ
   left_falls = more_is_greater rest left place (λ i set. ((less i).0 set).0) mine place_gone
 
   -- that place is marked
-  module _ (old marks : List ℕ) (first word column toward reach value : ℕ) (is : IsMarking old marks first word column toward reach left) (inside : first + place < length marks)
-      (key : value + gap (column + place) toward ≡ reach + 1) (some : value ≢ 0) where
+  module _ (old marks : List ℕ) (first word column toward reach value : ℕ) (is : IsMarking old marks first word column toward reach left)
+      (inside : first + place < length marks) (key : value + gap (column + place) toward ≡ reach + 1) (some : value ≢ 0) where
     -- its cell wasn't counted before
     uncounted_before : AreUncounted old first word → slice_get marks (first + place) ≡ Some 0
     uncounted_before free =
@@ -121,14 +111,14 @@ module _ (left place alone rest : ℕ) (mine : IsSet left place) (one : (i : ℕ
           | inr before ↦ mark_other marks (first + place) (first + i) value (λ e. other (omega arith)) ∙ is.marked i k set before moves
         ]
       ];
-      others = λ n apart. mark_other marks (first + place) n value (apart place (is.within place mine) place_gone) ∙ is.others n (λ i set gone. apart i set (still_gone i gone));
+      others = λ n out. mark_other marks (first + place) n value (out place (is.within place mine) place_gone) ∙ is.others n (λ i set gone. out i set (still_gone i gone));
       at_most = λ free. omega (arith, one_less free);
       fewer = λ free i set gone. one_less free;
     }
 
 -- at the end none is left
-pub marking_ends : (old marks : List ℕ) (first word column toward reach left : ℕ) → IsMarking old marks first word column toward reach left → ((i : ℕ) → ¬ (IsSet left i)) → word < 2 ^ 64
-    → AreUncounted old first word → word ≢ 0 → uncounted marks + 1 ≤ uncounted old
+pub marking_ends : (old marks : List ℕ) (first word column toward reach left : ℕ) → IsMarking old marks first word column toward reach left → ((i : ℕ) → ¬ (IsSet left i))
+    → word < 2 ^ 64 → AreUncounted old first word → word ≢ 0 → uncounted marks + 1 ≤ uncounted old
 marking_ends old marks first word column toward reach left is none fits free some =
     let place : (i : ℕ) × (i < 64) × IsSet word i = some_set word fits some in
     is.fewer free place.0 place.2 (none place.0)
@@ -140,20 +130,20 @@ pub first_number : (g : Terrain) (s : Span) (wide : ℕ) → wide ≡ g.width �
 first_number g s wide same = rw same (omega arith)
 
 -- The word has cells of the span that are open and not counted, and which were looked at.
-module _ (g : Terrain) (old : Distances) (s : Span) (word : ℕ) (is : IsSpan g s) (are : AreSpans g old) (known : slice_get old.known s.number ≡ Some 1) (fits : word < 2 ^ 64)
-    (free : (i : ℕ) → IsSet word i → (w : ℕ) → slice_get old.free.items s.number ≡ Some w → IsSet w i) where
+module _ (g : Terrain) (old : Distances) (s : Span) (word : ℕ) (is : IsSpan g s) (are : AreSpans g old) (known : slice_get old.known s.number ≡ Some 1)
+    (fits : word < 2 ^ 64) (free : (i : ℕ) → IsSet word i → (w : ℕ) → slice_get old.free.items s.number ≡ Some w → IsSet w i) where
   number_in : s.number < length old.free.items
   number_in =
       let inside : s.number < length old.known = slice_get_within old.known s.number 1 known in
       omega (arith, are.known_fit, are.free_fit)
 
   -- the cell at a place that the word has
-  pub cell_in : (i : ℕ) → IsSet word i → (c : Cell) × IsCellAt g s i c × IsFree g old.marks c
+  cell_in : (i : ℕ) → IsSet word i → (c : Cell) × IsCellAt g s i c × IsFree g old.marks c
   cell_in i set =
       let at : slice_get old.free.items s.number ≡ Some (get_or old.free.items s.number 0) = slice_get-get_or old.free.items s.number 0 number_in in
       are.free_only s _ i is known at (free i set _ at) (set_below word i fits set)
 
-  pub held_free : (c : Cell) → Holds g s word c → IsFree g old.marks c
+  held_free : (c : Cell) → Holds g s word c → IsFree g old.marks c
   held_free c (i, set, at) =
       let there = cell_in i set in
       subst (λ (z : Cell). IsFree g old.marks z) (same_cells there.0 c (there.1.1.2 ∙ sym at.1.2)) there.2
@@ -208,6 +198,7 @@ module _ (g : Terrain) (old : Distances) (s : Span) (word : ℕ) (is : IsSpan g 
             let on_level : old.level - apart g old.toward c + apart g old.toward c ≡ old.level = omega (arith, low c held) in
             (old.level - apart g old.toward c, on_level, held_counted c _ held on_level)
 
+        -- a cell is the word's, or its mark stays
         held_or_kept : (c : Cell) → Holds g s word c ⊎ (slice_get marks c.0 ≡ slice_get old.marks c.0)
         held_or_kept c = elim (cases_lt c.0 first) [
           | inl before ↦ inr (others c.0 (λ i set e. omega arith))
@@ -262,10 +253,12 @@ module _ (g : Terrain) (old : Distances) (s : Span) (word : ℕ) (is : IsSpan g 
         ]
 
         -- The span's word has them no longer.
-        module _ (whole rest : ℕ) (whole_is : whole ≡ get_or old.free.items s.number whole) (less : (i : ℕ) → IsSet rest i ↔ (IsSet whole i × ¬ (IsSet word i))) where
+        module _ (whole rest : ℕ) (whole_is : whole ≡ get_or old.free.items s.number whole)
+            (less : (i : ℕ) → IsSet rest i ↔ (IsSet whole i × ¬ (IsSet word i))) where
           whole_at : slice_get old.free.items s.number ≡ Some whole
           whole_at = slice_get_read old.free.items (length old.free.items) s.number whole refl number_in whole_is
 
+          -- a word is the one of the span, or the one that it was
           word_cases : (t : Span) (w : ℕ) → IsSpan g t → slice_get (set old.free.items s.number rest) t.number ≡ Some w
               → ((s ≡ t) × (w ≡ rest)) ⊎ (¬ (s ≡ t) × (slice_get old.free.items t.number ≡ Some w))
           word_cases t w it at = elim (cases_eq t.number s.number) [
@@ -274,7 +267,8 @@ module _ (g : Terrain) (old : Distances) (s : Span) (word : ℕ) (is : IsSpan g 
           ]
 
           -- where a free cell of a span is one of its word's now, the word that was counted doesn't have it
-          out_of_word : (t : Span) (w i : ℕ) (c : Cell) → IsSpan g t → slice_get (set old.free.items s.number rest) t.number ≡ Some w → IsSet w i → IsCellAt g t i c → ¬ (Holds g s word c)
+          out_of_word : (t : Span) (w i : ℕ) (c : Cell) → IsSpan g t → slice_get (set old.free.items s.number rest) t.number ≡ Some w → IsSet w i
+              → IsCellAt g t i c → ¬ (Holds g s word c)
           out_of_word t w i c it at set cell (j, has, place) =
               let once : (s ≡ t) × (j ≡ i) = place_once g s t j i c is it place cell in
               elim (word_cases t w it at) [
@@ -282,17 +276,18 @@ module _ (g : Terrain) (old : Distances) (s : Span) (word : ℕ) (is : IsSpan g 
                 | inr (other, before) ↦ other once.0
               ]
 
-          free_only_now : (t : Span) (w i : ℕ) → IsSpan g t → slice_get old.known t.number ≡ Some 1 → slice_get (set old.free.items s.number rest) t.number ≡ Some w → IsSet w i → i < 64
-              → (c : Cell) × IsCellAt g t i c × IsFree g marks c
+          free_only_now : (t : Span) (w i : ℕ) → IsSpan g t → slice_get old.known t.number ≡ Some 1 → slice_get (set old.free.items s.number rest) t.number ≡ Some w
+              → IsSet w i → i < 64 → (c : Cell) × IsCellAt g t i c × IsFree g marks c
           free_only_now t w i it looked at set below =
               let before : (c : Cell) × IsCellAt g t i c × IsFree g old.marks c = elim (word_cases t w it at) [
-                | inl (same, w_is) ↦ subst (λ (z : Span). (c : Cell) × IsCellAt g z i c × IsFree g old.marks c) same (are.free_only s whole i is known whole_at ((less i).0 (rw w_is at set)).0 below)
+                | inl (same, w_is) ↦ subst (λ (z : Span). (c : Cell) × IsCellAt g z i c × IsFree g old.marks c) same
+                    (are.free_only s whole i is known whole_at ((less i).0 (rw w_is at set)).0 below)
                 | inr (other, old_at) ↦ are.free_only t w i it looked old_at set below
               ] in
               (before.0, before.1, still_free before.0 before.2 (out_of_word t w i before.0 it at set before.1))
 
-          free_all_now : (t : Span) (w i : ℕ) (c : Cell) → IsSpan g t → slice_get old.known t.number ≡ Some 1 → slice_get (set old.free.items s.number rest) t.number ≡ Some w → IsCellAt g t i c
-              → IsFree g marks c → IsSet w i
+          free_all_now : (t : Span) (w i : ℕ) (c : Cell) → IsSpan g t → slice_get old.known t.number ≡ Some 1 → slice_get (set old.free.items s.number rest) t.number ≡ Some w
+              → IsCellAt g t i c → IsFree g marks c → IsSet w i
           free_all_now t w i c it looked at cell left = elim (word_cases t w it at) [
             | inl (same, w_is) ↦
                 let mine : IsCellAt g s i c = subst (λ (z : Span). IsCellAt g z i c) (sym same) cell in
@@ -306,7 +301,8 @@ module _ (g : Terrain) (old : Distances) (s : Span) (word : ℕ) (is : IsSpan g 
             | inr before ↦ are.looked t i k c it cell before
           ]
 
-          pub spans_after : (new : Distances) → length marks ≡ length old.marks → new.free.items ≡ set old.free.items s.number rest → AreSpans g (record old { marks = marks; free = new.free })
+          pub spans_after : (new : Distances) → length marks ≡ length old.marks → new.free.items ≡ set old.free.items s.number rest
+              → AreSpans g (record old { marks = marks; free = new.free })
           spans_after new count items = record {
             marks_fit = count ∙ are.marks_fit;
             known_fit = are.known_fit;

@@ -1,4 +1,4 @@
-use Rattle.std.proofs.Common.{◌≡◌, ◌+◌, ◌-◌, ◌*◌, ◌≤◌, get_or, refl, arith}
+use Rattle.std.proofs.Common.{◌-◌, ◌≤◌, refl, arith}
 use Rattle.std.specs.Vec.{with_item}
 use Rattle.static_distance.specs.Levels.{gap}
 use Rattle.static_distance.proofs.MarkLemmas.{first_number, mark_inside, low_at, low_row, marks_free, has_counted, spans_after}

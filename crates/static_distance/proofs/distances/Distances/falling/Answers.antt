@@ -1,6 +1,5 @@
-use Rattle.std.proofs.Common.{◌+◌, ◌<◌, ◌≤◌, inl, inr, arith}
+use Rattle.std.proofs.Common.{◌+◌, ◌<◌, inl, inr, arith}
 use Rattle.std.proofs.lemmas.Bool.{cases_lt}
-use Rattle.row_words.specs.Words.{IsSet}
 use Rattle.row_words.proofs.WordLemmas.{set_below, set_in_ones}
 use Rattle.static_distance.proofs.distances.Distances.falling.Goals as goal
 
