@@ -4,6 +4,7 @@ pub mod LevelLemmas
 pub mod SpreadLemmas
 pub mod FloodLemmas
 pub mod AimLemmas
+pub mod TakeLemmas
 pub mod SpanLemmas
 pub mod MarkLemmas
 pub mod SideLemmas

@@ -56,8 +56,8 @@ pub record HasLooked (g : Terrain) (span : Span) (old new : Distances) : Type 0 
   pub here_spans : new.here.spans ≡ old.here.spans
   pub next_spans : new.next.spans ≡ old.next.spans
 
--- nothing waits, and nothing has changed
+-- nothing waited, and the level stayed
 pub record HasNoMore (old new : Distances) : Type 0 where
-  pub same : new ≡ old
+  pub level : new.level ≡ old.level
   pub here : old.here.spans.items ≡ []
   pub next : old.next.spans.items ≡ []
