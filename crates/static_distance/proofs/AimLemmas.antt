@@ -1,6 +1,6 @@
 -- Where nothing is counted: at a new aim.
-use Rattle.std.proofs.Common.{◌≡◌, ℕ, zero, suc, ◌+◌, ◌*◌, ◌<◌, ◌≤◌, inl, inr, List, [], ◌∷◌, length, Some, refl, sym, ap, subst, ◌∙◌, arith, replicate}
-use Rattle.std.specs.Prelude.{slice_get, ◌↔◌, ◌⊎◌}
+use Rattle.std.proofs.Common.{◌≡◌, ℕ, zero, suc, ◌*◌, ◌<◌, inl, inr, List, [], length, Some, refl, sym, ap, subst, ◌∙◌, arith, replicate}
+use Rattle.std.specs.Prelude.{slice_get, ◌↔◌}
 use Rattle.std.proofs.lemmas.Option.{same_Some, none-some}
 use Rattle.std.proofs.lemmas.List.{length-replicate}
 use Rattle.fleet_base.specs.declared.grid.Cell.{Cell}
@@ -14,7 +14,7 @@ use Rattle.static_distance.specs.declared.distances.Distances.{Distances}
 use Rattle.static_distance.specs.Levels.{IsCounted, apart, uncounted}
 use Rattle.static_distance.specs.Spreading.{IsFlood}
 use Rattle.static_distance.specs.Spans.{stride, IsSpan, IsCellAt, Stands, AreListed, AreSpans, flood_of}
-use Rattle.static_distance.specs.Aim.{waiting, work, AreFitting, IsAimed, HasLooked}
+use Rattle.static_distance.specs.Aim.{AreFitting, HasLooked}
 use Rattle.static_distance.proofs.SpreadLemmas.{begun_flood}
 use Rattle.static_distance.proofs.FloodLemmas.{cell_once}
 use Rattle.static_distance.proofs.SpanLemmas.{span_within, added_stands, added_only, spans_here}

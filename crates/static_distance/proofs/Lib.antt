@@ -1,6 +1,5 @@
 pub mod Ways
 pub mod Places
-pub mod LevelLemmas
 pub mod SpreadLemmas
 pub mod FloodLemmas
 pub mod AimLemmas

@@ -1,15 +1,17 @@
 -- How far cells beside each other are from a place.
 use Rattle.std.proofs.Common.{length, ◌≡◌, ℕ, ◌+◌, ◌/◌, ◌%◌, ◌<◌, ◌≤◌, Bool, true, false, nat_lt, refl, ap, ◌∙◌, arith}
-use Rattle.std.specs.Bool.{OnTrue, OnFalse}
+use Rattle.std.specs.Bool.{OnTrue}
 use Rattle.std.proofs.lemmas.Nat.{mod-mul-add, div-mul-add}
-use Rattle.std.proofs.lemmas.Bool.{ltb-true, ltb-false}
+use Rattle.std.proofs.lemmas.Bool.{ltb-true}
 use Rattle.fleet_base.specs.declared.grid.Cell.{Cell}
 use Rattle.fleet_base.specs.declared.grid.Side.{Side}
 use Rattle.fleet_base.specs.declared.grid.Side.TheVariants.{Up, Left, Right, Down}
 use Rattle.fleet_base.specs.Terrain.{Terrain, IsTerrain, IsAt, IsBeside}
 use Rattle.fleet_base.proofs.GridLemmas.{placed}
 use Rattle.static_distance.specs.declared.place.Place.{Place}
+use Rattle.static_distance.specs.Distance.{IsWay, there, move}
 use Rattle.static_distance.specs.Levels.{IsPlaceOf, gap, apart}
+use Rattle.static_distance.proofs.Ways.{beside_back}
 
 pub column_at : (g : Terrain) (c : Cell) (x y : ℕ) → IsAt g c x y → c.0 % g.width ≡ x
 column_at g c x y (inside, high, is) = rw is (mod-mul-add y g.width x inside)
@@ -88,9 +90,8 @@ on_less a b P then_less = on (nat_lt a b) refl
     on true e = then_less (ltb-true a b e)
     on false e = tt
 
-pub on_not_less : (a b : ℕ) (P : Type 0) → (b ≤ a → P) → OnFalse (nat_lt a b) P
-on_not_less a b P then_more = on (nat_lt a b) refl
-  where
-    on : (v : Bool) → nat_lt a b ≡ v → OnFalse v P
-    on true e = tt
-    on false e = then_more (ltb-false a b e)
+-- no way to the cell of a place has fewer moves than if all cells were open
+pub way_long : (g : Terrain) (place : Place) {goal c : Cell} {k : ℕ} → IsPlaceOf g goal place → IsWay g goal c k → apart g place c ≤ k
+way_long g place of (there opened) = omega (arith, of.0, of.1)
+way_long g place of (move {c} {d} side opened beside rest) =
+    let back = beside_back g side c d beside in omega (arith, low_apart g place back.0 d c back.1, way_long g place of rest)

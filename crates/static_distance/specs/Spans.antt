@@ -1,5 +1,5 @@
 -- The flood by spans: 64 cells of a row side by side, a bit for each.
-use Rattle.std.specs.Prelude.{◌≡◌, ◌≢◌, ℕ, suc, ◌+◌, ◌*◌, ◌/◌, ◌<◌, ◌≤◌, ◌⊎◌, Bool, true, false, List, [], Some, length, slice_get}
+use Rattle.std.specs.Prelude.{◌≡◌, ◌≢◌, ℕ, ◌+◌, ◌*◌, ◌/◌, ◌<◌, ◌⊎◌, Bool, true, false, List, Some, length, slice_get}
 use Rattle.fleet_base.specs.declared.grid.Cell.{Cell}
 use Rattle.fleet_base.specs.declared.grid.Side.{Side}
 use Rattle.fleet_base.specs.Terrain.{Terrain, IsOpen, IsAt, IsBeside}
@@ -7,7 +7,7 @@ use Rattle.row_words.specs.Words.{IsSet}
 use Rattle.static_distance.specs.declared.span.Span.{Span}
 use Rattle.static_distance.specs.declared.place.Place.{Place}
 use Rattle.static_distance.specs.declared.distances.Distances.{Distances}
-use Rattle.static_distance.specs.Levels.{IsCounted, IsPlaceOf, apart, uncounted}
+use Rattle.static_distance.specs.Levels.{IsCounted, apart}
 use Rattle.static_distance.specs.Spreading.{Flood}
 use Rattle.static_distance.specs.Waiting.{IsListed}
 

@@ -1,5 +1,5 @@
 -- Sets of cells that wait, a word for each span.
-use Rattle.std.specs.Prelude.{◌≡◌, ◌≢◌, ℕ, ◌+◌, ◌⊎◌, ◌↔◌, List, Some, slice_get}
+use Rattle.std.specs.Prelude.{◌≡◌, ◌≢◌, ℕ, ◌⊎◌, ◌↔◌, List, Some, slice_get}
 use Rattle.row_words.specs.Words.{IsSet}
 use Rattle.static_distance.specs.declared.span.Span.{Span}
 use Rattle.static_distance.specs.declared.waiting.Waiting.{Waiting}

@@ -74,3 +74,27 @@ fn goes_round_a_wall(rt: HostRuntime) {
     let far = two(&mut distances, &grid, 2, 0, (5, 0)).expect(&rt, "memory");
     assert_eq!(rt; far, (Some(1), Some(6)));
 }
+
+// Two rows of 130 columns, so three spans a row; a wall in the upper row, at the seam of the first two.
+fn long_rows(alloc: Global) -> Result<Grid, AllocError>
+    ensures { IfOk result (λ g. length g.cells ≡ 260) }
+{
+    let mut cells = vec![in alloc; true; 260]?;
+    cells[63] = false;
+    Ok(Grid::new(130, 2, cells))
+}
+
+// Counted by hand: along the rows over both seams, there and back, round the wall.
+#[test]
+fn counts_over_seams(rt: HostRuntime) {
+    let grid = long_rows(rt.alloc()).expect(&rt, "memory");
+    let mut distances = Distances::new(rt.alloc(), 260).expect(&rt, "memory");
+    let right = two(&mut distances, &grid, 0, 129, (129, 62)).expect(&rt, "memory");
+    assert_eq!(rt; right, (Some(131), Some(62)));
+    let left = two(&mut distances, &grid, 129, 0, (0, 64)).expect(&rt, "memory");
+    assert_eq!(rt; left, (Some(131), Some(65)));
+    let away = two(&mut distances, &grid, 64, 129, (62, 130)).expect(&rt, "memory");
+    assert_eq!(rt; away, (Some(4), Some(65)));
+    let middle = two(&mut distances, &grid, 259, 194, (130, 63)).expect(&rt, "memory");
+    assert_eq!(rt; middle, (Some(129), None));
+}

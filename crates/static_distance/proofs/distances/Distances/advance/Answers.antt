@@ -1,11 +1,10 @@
-use Rattle.std.proofs.Common.{◌≡◌, ◌∙◌, ◌++◌, ◌∷◌, ◌<◌, [], length, Some, List, sym, ap, subst, refl, rules, arith, vec_len, append-nil}
+use Rattle.std.proofs.Common.{◌≡◌, ◌∙◌, ◌<◌, [], length, Some, List, sym, ap, subst, refl, rules, arith, vec_len, append-nil}
 use Rattle.std.specs.Prelude.{slice_get}
 use Rattle.std.specs.Vec.{with_item}
 use Rattle.std.proofs.lemmas.Option.{slice_get_read}
 use Rattle.static_distance.specs.declared.span.Span.{Span}
 use Rattle.static_distance.specs.declared.place.Place.{Place}
 use Rattle.static_distance.specs.Levels.{uncounted}
-use Rattle.static_distance.specs.declared.waiting.Waiting.{Waiting}
 use Rattle.static_distance.proofs.FloodLemmas.{no_items}
 use Rattle.static_distance.proofs.TakeLemmas.{same_lists, taken_span, taken_known, taken_within, taken_spans, taken_flood}
 use Rattle.static_distance.proofs.distances.Distances.advance.Goals as goal

@@ -1,12 +1,12 @@
 use Rattle.std.specs.Prelude.{Vec, ◌-◌, ◌<◌}
 use Rattle.std.specs.Global.{Global}
-use Rattle.std.proofs.Common.{arith, ap, sym, subst, ◌∙◌, ◌≡◌, ℕ, ◌*◌, ◌++◌, ◌∷◌, [], List, length, inl, inr, refl}
+use Rattle.std.proofs.Common.{arith, ap, sym, subst, ◌∙◌, ◌≡◌, ℕ, ◌*◌, length, refl}
 use Rattle.std.proofs.lemmas.List.{length-replicate}
 use Rattle.static_distance.specs.declared.distances.Distances.{Distances}
 use Rattle.static_distance.specs.Levels.{apart, uncounted}
 use Rattle.static_distance.specs.declared.place.Place.{Place}
 use Rattle.static_distance.specs.declared.span.Span.{Span}
-use Rattle.static_distance.specs.Spans.{stride, IsCellAt}
+use Rattle.static_distance.specs.Spans.{IsCellAt}
 use Rattle.static_distance.specs.Aim.{AreFitting, HasLooked}
 use Rattle.static_distance.proofs.AimLemmas.{all_uncounted, fresh_spans, closed_flood, open_spans, open_flood}
 use Rattle.static_distance.proofs.distances.Distances.aim.Goals as goal

@@ -1,9 +1,8 @@
-use Rattle.std.proofs.Common.{◌≡◌, ◌+◌, ◌∙◌, ◌<◌, ◌≤◌, ◌^◌, ℕ, Some, length, sym, ap, subst, refl, rules, arith, vec_len}
+use Rattle.std.proofs.Common.{◌≡◌, ◌∙◌, ℕ, Some, sym, subst, rules, vec_len}
 use Rattle.std.specs.Prelude.{slice_get}
 use Rattle.std.proofs.lemmas.Option.{slice_get_read, same_Some}
 use Rattle.row_words.specs.Words.{IsSet}
 use Rattle.row_words.proofs.WordLemmas.{set_below}
-use Rattle.static_distance.proofs.SpanLemmas.{span_within}
 use Rattle.static_distance.proofs.SideLemmas.{free_inside}
 use Rattle.static_distance.proofs.FloodLemmas.{batch_free, batch_low, passed_spans, shut_left, shut_right, spread_spans}
 use Rattle.static_distance.proofs.distances.Distances.spread.Goals as goal
