@@ -281,15 +281,19 @@ ready_kept g q horizon size size' same ready = record { bound = ready.bound; siz
 pub ties_kept : (g : Terrain) (q : Request) (known known' : ℕ → Option (List Record)) (ties : Ties) → KeepsKnown known known' → AreTies g q known ties → AreTies g q known' ties
 ties_kept g q known known' ties kept are = record {
   fit = are.fit;
+  place_is = are.place_is;
+  near = are.near;
   aimed = are.aimed;
   start_is = are.start_is;
   missed = λ a c u agrees at. are.missed a c u (agrees_before a known known' kept agrees) at;
 }
 
 pub ties_missed : (g : Terrain) (q : Request) (known : ℕ → Option (List Record)) (ties : Ties) (c : Cell) (u : ℕ) (now : List ℕ) → AreTies g q known ties → c.0 < length g.cells
-    → now ≡ set ties.missed c.0 (u + 1) → ((a : Assignment) → Agrees a known → IsReached g q a c u → ⊥) → AreTies g q known (record { from_start = ties.from_start; missed = now })
+    → now ≡ set ties.missed c.0 (u + 1) → ((a : Assignment) → Agrees a known → IsReached g q a c u → ⊥) → AreTies g q known (record ties { missed = now })
 ties_missed g q known ties c u now are within is never = record {
   fit = record { from_start = are.fit.from_start; missed = ap length is ∙ (length-set ties.missed c.0 (u + 1) ∙ are.fit.missed) };
+  place_is = are.place_is;
+  near = are.near;
   aimed = are.aimed;
   start_is = are.start_is;
   missed = λ a d v agrees at.

@@ -9,6 +9,7 @@ use Rattle.fleet_base.specs.Reach.{Reached, IsArrival}
 use Rattle.fleet_base.specs.Canonical.{CanPrecede, IsFirstBefore, IsEarliest}
 use Rattle.calendars.specs.Assignments.{Assignment, Agrees, traffic_by}
 use Rattle.static_distance.specs.Aim.{room, IsAimed}
+use Rattle.static_distance.specs.Levels.{IsPlaceOf}
 use Rattle.sipp_search.specs.declared.states.Arena.{Arena}
 use Rattle.sipp_search.specs.declared.ties.Ties.{Ties}
 use Rattle.sipp_search.specs.declared.ties.Told.{Told}
@@ -37,9 +38,11 @@ pub record HaveRoom (cells : ℕ) (ties : Ties) : Type 0 where
   pub from_start : room ties.from_start ≡ cells
   pub missed : length ties.missed ≡ cells
 
--- moves are counted from the start, and no cell is reached at the time at which it was missed
+-- moves are counted from the start, whose place is known, and no cell is reached at the time at which it was missed
 pub record AreTies (g : Terrain) (q : Request) (known : ℕ → Option (List Record)) (ties : Ties) : Type 0 where
   pub fit : HaveRoom (length g.cells) ties
+  pub place_is : IsPlaceOf g q.start ties.start
+  pub near : (ties.start.column < 2048) × (ties.start.row < 2048)
   pub aimed : IsAimed g ties.from_start
   pub start_is : ties.from_start.goal ≡ q.start
   pub missed : (a : Assignment) (c : Cell) (u : ℕ) → Agrees a known → slice_get ties.missed c.0 ≡ Some (suc u) → ¬ (Reached g (traffic_by a) q.start q.depart c u)

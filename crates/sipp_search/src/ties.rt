@@ -19,18 +19,24 @@ use crate::touch::block_of;
 use calendars::{CalendarView, crossing};
 use fleet_base::{Cell, Memory, Side};
 use stamped_list::StampedList;
-use static_distance::Distances;
+use static_distance::{Distances, Place, moves_between, place_of};
 use std::alloc::Global;
 
 // So many moves back it is asked whether a state is reached, before the rest of its key is settled instead.
 const DEPTH: u32 = 1000;
 
-// What reading back keeps of earlier questions: the moves from the start, and by the cell's number 1 plus the time at which
-// the cell was found not to be reached.
+// So many states are looked into that might be reached if all cells were open, before moves from the start are counted:
+// that costs about as much.
+const EASY: u32 = 1000;
+
+// What reading back keeps of earlier questions: where the start is and the moves from it, by the cell's number 1 plus the
+// time at which the cell was found not to be reached, and how many states were looked into without counting moves.
 #[derive(Drop)]
 pub struct Ties {
+    pub start: Place,
     pub from_start: Distances,
     pub missed: StampedList,
+    pub looked: u32,
 }
 
 // What is told of a cell at a time: since when it is reached, that it never is, or that it wasn't found out.
@@ -46,8 +52,10 @@ pub fn new_ties(alloc: Global, cells: usize) -> Result<Ties, Memory>
     ensures { IfOk result (HaveRoom cells) }
 {
     Ok(Ties {
+        start: Place { column: 0, row: 0 },
         from_start: Distances::new(alloc, cells)?,
         missed: StampedList::new(alloc, cells)?,
+        looked: 0,
     })
 }
 
@@ -60,6 +68,8 @@ fn forget(task: &Task, ties: &mut Ties) -> Result<(), Memory>
     ensures ties { OnOk result ((known : ℕ → Option (List Record)) → AreTies task.now.grid.now task.now.request known ties.new) }
 {
     ties.missed.clear();
+    ties.looked = 0;
+    ties.start = place_of(task.grid, task.request.start);
     ties.from_start
         .aim(task.grid, task.request.start, task.request.goal)?;
     Ok(())
@@ -74,16 +84,20 @@ fn is_too_far(task: &Task, ties: &mut Ties, cell: Cell, time: u32) -> Result<boo
     ensures ties { OnOk result ((known : ℕ → Option (List Record)) → AreTies task.now.grid.now task.now.request known ties.old → AreTies task.now.grid.now task.now.request known ties.new) }
     ensures far { IfOk result (λ far. OnTrue far ((a : Assignment) → Reached task.now.grid.now (traffic_by a) task.now.request.start task.now.request.depart cell time → ⊥)) }
 {
-    let Some(moves) = ties.from_start.to_goal(task.grid, cell)? else {
-        return Ok(true);
-    };
     let Some(since) = time.checked_sub(task.request.depart) else {
         return Ok(true);
     };
-    if since < moves {
+    if since < moves_between(place_of(task.grid, cell), ties.start) {
         return Ok(true);
     }
-    Ok(false)
+    if ties.looked < EASY {
+        ties.looked += 1;
+        return Ok(false);
+    }
+    let Some(moves) = ties.from_start.to_goal(task.grid, cell)? else {
+        return Ok(true);
+    };
+    Ok(since < moves)
 }
 
 // The arrival that is known of a state, where it isn't after the time.

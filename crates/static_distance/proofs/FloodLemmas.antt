@@ -142,8 +142,8 @@ module _ (g : Terrain) (s : Span) (seeds free up down batch : ℕ) (old : Distan
     here_kept = λ c waits. elim waits [
       | inl stands ↦ inl stands
       | inr seed ↦ inr (elim (seed_cases c seed) [
-          | inl held ↦ absurd (held_word g s batch c held empty)
-          | inr is ↦ is
+        | inl held ↦ absurd (held_word g s batch c held empty)
+        | inr is ↦ is
       ])
     ];
     next_kept = λ c stands. inl stands;
@@ -232,14 +232,14 @@ module _ (g : Terrain) (s : Span) (seeds free up down batch : ℕ) (old : Distan
     here_well c stands5 = elim (four.here_only c stands5) [
       | inr led ↦ led_here Right d4 c (three.kept.toward ∙ (two.kept.toward ∙ (one.kept.toward ∙ toward_is))) led
       | inl stands4 ↦ elim (three.here_only c stands4) [
-          | inr led ↦ led_here Left d3 c (two.kept.toward ∙ (one.kept.toward ∙ toward_is)) led
-          | inl stands3 ↦ elim (two.here_only c stands3) [
-              | inr led ↦ led_here Down d2 c (one.kept.toward ∙ toward_is) led
-              | inl stands2 ↦ elim (one.here_only c stands2) [
-                  | inr led ↦ led_here Up d1 c toward_is led
-                  | inl stands1 ↦ flood.here_well c (inl (here_before c stands1))
-              ]
+        | inr led ↦ led_here Left d3 c (two.kept.toward ∙ (one.kept.toward ∙ toward_is)) led
+        | inl stands3 ↦ elim (two.here_only c stands3) [
+          | inr led ↦ led_here Down d2 c (one.kept.toward ∙ toward_is) led
+          | inl stands2 ↦ elim (one.here_only c stands2) [
+            | inr led ↦ led_here Up d1 c toward_is led
+            | inl stands1 ↦ flood.here_well c (inl (here_before c stands1))
           ]
+        ]
       ]
     ]
 
@@ -247,14 +247,14 @@ module _ (g : Terrain) (s : Span) (seeds free up down batch : ℕ) (old : Distan
     next_well c stands5 = elim (four.next_only c stands5) [
       | inr led ↦ led_next Right d4 c (three.kept.toward ∙ (two.kept.toward ∙ (one.kept.toward ∙ toward_is))) led
       | inl stands4 ↦ elim (three.next_only c stands4) [
-          | inr led ↦ led_next Left d3 c (two.kept.toward ∙ (one.kept.toward ∙ toward_is)) led
-          | inl stands3 ↦ elim (two.next_only c stands3) [
-              | inr led ↦ led_next Down d2 c (one.kept.toward ∙ toward_is) led
-              | inl stands2 ↦ elim (one.next_only c stands2) [
-                  | inr led ↦ led_next Up d1 c toward_is led
-                  | inl stands1 ↦ flood.next_well c (next_before c stands1)
-              ]
+        | inr led ↦ led_next Left d3 c (two.kept.toward ∙ (one.kept.toward ∙ toward_is)) led
+        | inl stands3 ↦ elim (two.next_only c stands3) [
+          | inr led ↦ led_next Down d2 c (one.kept.toward ∙ toward_is) led
+          | inl stands2 ↦ elim (one.next_only c stands2) [
+            | inr led ↦ led_next Up d1 c toward_is led
+            | inl stands1 ↦ flood.next_well c (next_before c stands1)
           ]
+        ]
       ]
     ]
 
@@ -294,8 +294,8 @@ module _ (g : Terrain) (s : Span) (seeds free up down batch : ℕ) (old : Distan
       here_kept = λ c waits. elim waits [
         | inl stands ↦ inl (here_after c stands)
         | inr seed ↦ inr (elim (seed_cases c seed) [
-            | inl held ↦ let well = batch_well c held in (well.0, subst (λ (ms : List ℕ). IsCounted ms c well.0) (sym marks_is) (counted.counted c well.0 held well.1))
-            | inr is ↦ (is.0, subst (λ (ms : List ℕ). IsCounted ms c is.0) (sym marks_is) (counted.still c is.0 is.1))
+          | inl held ↦ let well = batch_well c held in (well.0, subst (λ (ms : List ℕ). IsCounted ms c well.0) (sym marks_is) (counted.counted c well.0 held well.1))
+          | inr is ↦ (is.0, subst (λ (ms : List ℕ). IsCounted ms c is.0) (sym marks_is) (counted.still c is.0 is.1))
         ])
       ];
       next_kept = λ c stands. inl (next_after c stands);

@@ -156,43 +156,51 @@ module _ (g : Terrain) (s t : Span) (word : ℕ) (old new : Distances) (is : IsS
   spread_above row has = spread_more g Up s word (λ on n. Enters g t word (nat_lt old.toward.row s.row) old.marks on n) old new
       (more_entered g t word (nat_lt old.toward.row s.row) old new has)
       (λ on n (closer, (i, set, (below, at)), free).
-        let c : Cell = record { 0 = s.row * g.width + (s.column + i) } in
-        let inside : s.column + i < g.width = omega (arith, at.0) in
-        let from : IsAt g c (s.column + i) s.row = (inside, is.row_in, refl) in
-        let beside : IsBeside g Up c n = (s.column + i, t.row, same_at g c (s.column + i) s.row (s.column + i) (t.row + 1) refl (sym row) from,
-            same_at g n (t.column + i) t.row (s.column + i) t.row (omega arith) refl at) in
-        record {
-          from = c;
-          held = (i, set, (below, from));
-          beside = beside;
-          free = free;
-          step = subst (λ (b : Bool). IsStep g old.toward b c n) closer (step_to g old.toward c n (s.column + i) s.row from Up beside);
-        })
+      let c : Cell = record { 0 = s.row * g.width + (s.column + i) } in
+      let inside : s.column + i < g.width = omega (arith, at.0) in
+      let from : IsAt g c (s.column + i) s.row = (inside, is.row_in, refl) in
+      let beside : IsBeside g Up c n = (
+        s.column + i,
+        t.row,
+        same_at g c (s.column + i) s.row (s.column + i) (t.row + 1) refl (sym row) from,
+        same_at g n (t.column + i) t.row (s.column + i) t.row (omega arith) refl at,
+      ) in
+      record {
+        from = c;
+        held = (i, set, (below, from));
+        beside = beside;
+        free = free;
+        step = subst (λ (b : Bool). IsStep g old.toward b c n) closer (step_to g old.toward c n (s.column + i) s.row from Up beside);
+      })
       (λ c n (i, set, (below, at)) beside free.
-        let to : IsAt g n (s.column + i) t.row = above_at g c n (s.column + i) t.row (same_at g c (s.column + i) s.row (s.column + i) (t.row + 1) refl (sym row) at) beside in
-        (nat_lt old.toward.row s.row, (refl, (i, set, (below, same_at g n (s.column + i) t.row (t.column + i) t.row (omega arith) refl to)), free),
-         step_to g old.toward c n (s.column + i) s.row at Up beside))
+      let to : IsAt g n (s.column + i) t.row = above_at g c n (s.column + i) t.row (same_at g c (s.column + i) s.row (s.column + i) (t.row + 1) refl (sym row) at) beside in (
+        nat_lt old.toward.row s.row,
+        (refl, (i, set, (below, same_at g n (s.column + i) t.row (t.column + i) t.row (omega arith) refl to)), free),
+        step_to g old.toward c n (s.column + i) s.row at Up beside,
+      ))
 
   -- t is the span under s
   pub spread_under : t.row ≡ s.row + 1 → HasEntered g t word (nat_lt s.row old.toward.row) old new → HasSpreadTo g Down s word old new
   spread_under row has = spread_more g Down s word (λ on n. Enters g t word (nat_lt s.row old.toward.row) old.marks on n) old new
       (more_entered g t word (nat_lt s.row old.toward.row) old new has)
       (λ on n (closer, (i, set, (below, at)), free).
-        let c : Cell = record { 0 = s.row * g.width + (s.column + i) } in
-        let inside : s.column + i < g.width = omega (arith, at.0) in
-        let from : IsAt g c (s.column + i) s.row = (inside, is.row_in, refl) in
-        let beside : IsBeside g Down c n = (s.column + i, s.row, from, same_at g n (t.column + i) t.row (s.column + i) (s.row + 1) (omega arith) row at) in
-        record {
-          from = c;
-          held = (i, set, (below, from));
-          beside = beside;
-          free = free;
-          step = subst (λ (b : Bool). IsStep g old.toward b c n) closer (step_to g old.toward c n (s.column + i) s.row from Down beside);
-        })
+      let c : Cell = record { 0 = s.row * g.width + (s.column + i) } in
+      let inside : s.column + i < g.width = omega (arith, at.0) in
+      let from : IsAt g c (s.column + i) s.row = (inside, is.row_in, refl) in
+      let beside : IsBeside g Down c n = (s.column + i, s.row, from, same_at g n (t.column + i) t.row (s.column + i) (s.row + 1) (omega arith) row at) in
+      record {
+        from = c;
+        held = (i, set, (below, from));
+        beside = beside;
+        free = free;
+        step = subst (λ (b : Bool). IsStep g old.toward b c n) closer (step_to g old.toward c n (s.column + i) s.row from Down beside);
+      })
       (λ c n (i, set, (below, at)) beside free.
-        let to : IsAt g n (s.column + i) (s.row + 1) = under_at g c n (s.column + i) s.row at beside in
-        (nat_lt s.row old.toward.row, (refl, (i, set, (below, same_at g n (s.column + i) (s.row + 1) (t.column + i) t.row (omega arith) (sym row) to)), free),
-         step_to g old.toward c n (s.column + i) s.row at Down beside))
+      let to : IsAt g n (s.column + i) (s.row + 1) = under_at g c n (s.column + i) s.row at beside in (
+        nat_lt s.row old.toward.row,
+        (refl, (i, set, (below, same_at g n (s.column + i) (s.row + 1) (t.column + i) t.row (omega arith) (sym row) to)), free),
+        step_to g old.toward c n (s.column + i) s.row at Down beside,
+      ))
 
 -- ---- in the row
 
@@ -200,26 +208,35 @@ module _ (g : Terrain) (s t : Span) (word : ℕ) (old new : Distances) (is : IsS
 pub away_left : (word near far away column toward : ℕ) → word < 2 ^ 64 → ((i : ℕ) → IsSet near i ↔ ((i < 64) × (toward < column + i)))
     → ((i : ℕ) → IsSet far i ↔ (IsSet word i × ¬ (IsSet near i))) → ((i : ℕ) → IsSet away i ↔ IsSet far (i + 1))
     → (i : ℕ) → IsSet away i ↔ (IsSet word (i + 1) × (column + (i + 1) ≤ toward))
-away_left word near far away column toward fits near_is far_is away_is i =
-    (λ set. (let parts : IsSet word (i + 1) × ¬ (IsSet near (i + 1)) = (far_is (i + 1)).0 ((away_is i).0 set) in
-      (parts.0, elim (cases_lt toward (column + (i + 1))) [
-        | inl less ↦ absurd (parts.1 ((near_is (i + 1)).1 (set_below word (i + 1) fits parts.0, less)))
-        | inr more ↦ more
-      ])),
-     λ (set, more). (away_is i).1 ((far_is (i + 1)).1 (set, λ near_set. (let less = ((near_is (i + 1)).0 near_set).1 in omega arith))))
+away_left word near far away column toward fits near_is far_is away_is i = (
+  λ set. (let parts : IsSet word (i + 1) × ¬ (IsSet near (i + 1)) = (far_is (i + 1)).0 ((away_is i).0 set) in (
+    parts.0,
+    elim (cases_lt toward (column + (i + 1))) [
+      | inl less ↦ absurd (parts.1 ((near_is (i + 1)).1 (set_below word (i + 1) fits parts.0, less)))
+      | inr more ↦ more
+    ],
+  )),
+  λ (set, more). (away_is i).1 ((far_is (i + 1)).1 (set, λ near_set. (let less = ((near_is (i + 1)).0 near_set).1 in omega arith))),
+)
 
 -- the places of the word from which the next greater column is farther, each moved there
 pub away_right : (word near far away column toward : ℕ) → word < 2 ^ 64 → ((i : ℕ) → IsSet near i ↔ ((i < 64) × (column + i < toward)))
     → ((i : ℕ) → IsSet far i ↔ (IsSet word i × ¬ (IsSet near i))) → ((i : ℕ) → IsSet away i ↔ ((j : ℕ) × (i ≡ j + 1) × (i < 64) × IsSet far j))
     → (i : ℕ) → IsSet away i ↔ ((j : ℕ) × (i ≡ j + 1) × (i < 64) × IsSet word j × (toward ≤ column + j))
-away_right word near far away column toward fits near_is far_is away_is i =
-    (λ set. (let moved : (j : ℕ) × (i ≡ j + 1) × (i < 64) × IsSet far j = (away_is i).0 set in
-      let parts : IsSet word moved.0 × ¬ (IsSet near moved.0) = (far_is moved.0).0 moved.3 in
-      (moved.0, moved.1, moved.2, parts.0, elim (cases_lt (column + moved.0) toward) [
-        | inl less ↦ absurd (parts.1 ((near_is moved.0).1 (set_below word moved.0 fits parts.0, less)))
-        | inr more ↦ more
-      ])),
-     λ (j, after, below, set, more). (away_is i).1 (j, after, below, (far_is j).1 (set, λ near_set. (let less = ((near_is j).0 near_set).1 in omega arith))))
+away_right word near far away column toward fits near_is far_is away_is i = (
+  λ set. (let moved : (j : ℕ) × (i ≡ j + 1) × (i < 64) × IsSet far j = (away_is i).0 set in
+      let parts : IsSet word moved.0 × ¬ (IsSet near moved.0) = (far_is moved.0).0 moved.3 in (
+        moved.0,
+        moved.1,
+        moved.2,
+        parts.0,
+        elim (cases_lt (column + moved.0) toward) [
+          | inl less ↦ absurd (parts.1 ((near_is moved.0).1 (set_below word moved.0 fits parts.0, less)))
+          | inr more ↦ more
+        ],
+      )),
+  λ (j, after, below, set, more). (away_is i).1 (j, after, below, (far_is j).1 (set, λ near_set. (let less = ((near_is j).0 near_set).1 in omega arith))),
+)
 
 -- places of free cells are within the row
 pub free_inside : (g : Terrain) (s : Span) (word free : ℕ) (d : Distances) → IsSpan g s → AreSpans g d → slice_get d.known s.number ≡ Some 1
@@ -259,9 +276,9 @@ module _ (g : Terrain) (s : Span) (word away : ℕ) (old : Distances) (is : IsSp
       (λ on n (closer, held, free). subst (λ (b : Bool). IsLed g Left s word old b n) closer (left_from n held free))
       (λ c n (i, set, (below, at)) beside free. elim (cases_eq i 0) [
         | inl first ↦ absurd (elim edge [
-            | inl none ↦ (let same = at_once g c (s.column + i) s.row (beside.0 + 1) beside.1 at beside.2 in omega (arith, same.0))
-            | inr clear ↦ clear (subst (λ (k : ℕ). IsSet word k) first set)
-          ])
+          | inl none ↦ (let same = at_once g c (s.column + i) s.row (beside.0 + 1) beside.1 at beside.2 in omega (arith, same.0))
+          | inr clear ↦ clear (subst (λ (k : ℕ). IsSet word k) first set)
+        ])
         | inr later ↦
             let after : i ≡ i - 1 + 1 = omega arith in
             let both = left_to c n (i - 1) (subst (λ (k : ℕ). IsSet word k) after set) (subst (λ (k : ℕ). IsCellAt g s k c) after (below, at)) beside free in
@@ -274,7 +291,7 @@ module _ (g : Terrain) (s : Span) (word away : ℕ) (old : Distances) (is : IsSp
   spread_left_out t last between new row column first last_is has has_out = spread_more g Left s word
       (λ on n. Enters g s away false old.marks on n ⊎ Enters g t last (nat_lt between.toward.column s.column) between.marks on n) old new
       (more_twice g (λ on n. Enters g s away false old.marks on n) (λ on n. Enters g t last (nat_lt between.toward.column s.column) between.marks on n) old between new
-        (more_entered g s away false old between has) (more_entered g t last (nat_lt between.toward.column s.column) between new has_out))
+      (more_entered g s away false old between has) (more_entered g t last (nat_lt between.toward.column s.column) between new has_out))
       (λ on n more. elim more [
         | inl (closer, held, free) ↦ subst (λ (b : Bool). IsLed g Left s word old b n) closer (left_from n held free)
         | inr (closer, (i, set, (below, at)), free) ↦
@@ -294,11 +311,15 @@ module _ (g : Terrain) (s : Span) (word away : ℕ) (old : Distances) (is : IsSp
       (λ c n (i, set, (below, at)) beside free. elim (cases_eq i 0) [
         | inl place ↦
             let from : IsAt g c s.column s.row = same_at g c (s.column + i) s.row s.column s.row (omega arith) refl at in
-            let to : IsAt g n (t.column + 63) s.row = before_at g c n (t.column + 63) s.row (same_at g c s.column s.row (t.column + 63 + 1) s.row (omega arith) refl from) beside in
-            (nat_lt between.toward.column s.column,
-             inr (refl, (63, (last_is 63).1 refl, (omega arith, same_at g n (t.column + 63) s.row (t.column + 63) t.row refl (sym row) to)),
-               subst (λ (marks : List ℕ). IsFree g marks n) (sym has.kept.marks) free),
-             subst (λ (p : Place). IsStep g old.toward (nat_lt p.column s.column) c n) (sym has.kept.toward) (step_to g old.toward c n s.column s.row from Left beside))
+            let to : IsAt g n (t.column + 63) s.row = before_at g c n (t.column + 63) s.row (same_at g c s.column s.row (t.column + 63 + 1) s.row (omega arith) refl from) beside in (
+              nat_lt between.toward.column s.column,
+              inr (
+                refl,
+                (63, (last_is 63).1 refl, (omega arith, same_at g n (t.column + 63) s.row (t.column + 63) t.row refl (sym row) to)),
+                subst (λ (marks : List ℕ). IsFree g marks n) (sym has.kept.marks) free,
+              ),
+              subst (λ (p : Place). IsStep g old.toward (nat_lt p.column s.column) c n) (sym has.kept.toward) (step_to g old.toward c n s.column s.row from Left beside),
+            )
         | inr later ↦
             let after : i ≡ i - 1 + 1 = omega arith in
             let both = left_to c n (i - 1) (subst (λ (k : ℕ). IsSet word k) after set) (subst (λ (k : ℕ). IsCellAt g s k c) after (below, at)) beside free in
@@ -339,9 +360,9 @@ module _ (g : Terrain) (s : Span) (word away : ℕ) (old : Distances) (is : IsSp
       (λ on n (closer, held, free). subst (λ (b : Bool). IsLed g Right s word old b n) closer (right_from n held free))
       (λ c n (i, set, (below, at)) beside free. elim (cases_eq i 63) [
         | inl last ↦ absurd (elim edge [
-            | inl none ↦ (let to : IsAt g n (s.column + i + 1) s.row = after_at g c n (s.column + i) s.row at beside in omega (arith, to.0))
-            | inr clear ↦ clear (subst (λ (k : ℕ). IsSet word k) last set)
-          ])
+          | inl none ↦ (let to : IsAt g n (s.column + i + 1) s.row = after_at g c n (s.column + i) s.row at beside in omega (arith, to.0))
+          | inr clear ↦ clear (subst (λ (k : ℕ). IsSet word k) last set)
+        ])
         | inr other ↦ (let both = right_to c n i set (below, at) (omega arith) beside free in (false, (refl, both.0, free), both.1))
       ])
 
@@ -351,7 +372,7 @@ module _ (g : Terrain) (s : Span) (word away : ℕ) (old : Distances) (is : IsSp
   spread_right_out t first between new row column last first_is has has_out = spread_more g Right s word
       (λ on n. Enters g s away false old.marks on n ⊎ Enters g t first (nat_lt (s.column + 63) between.toward.column) between.marks on n) old new
       (more_twice g (λ on n. Enters g s away false old.marks on n) (λ on n. Enters g t first (nat_lt (s.column + 63) between.toward.column) between.marks on n) old between new
-        (more_entered g s away false old between has) (more_entered g t first (nat_lt (s.column + 63) between.toward.column) between new has_out))
+      (more_entered g s away false old between has) (more_entered g t first (nat_lt (s.column + 63) between.toward.column) between new has_out))
       (λ on n more. elim more [
         | inl (closer, held, free) ↦ subst (λ (b : Bool). IsLed g Right s word old b n) closer (right_from n held free)
         | inr (closer, (i, set, (below, at)), free) ↦
@@ -372,10 +393,14 @@ module _ (g : Terrain) (s : Span) (word away : ℕ) (old : Distances) (is : IsSp
       (λ c n (i, set, (below, at)) beside free. elim (cases_eq i 63) [
         | inl place ↦
             let from : IsAt g c (s.column + 63) s.row = same_at g c (s.column + i) s.row (s.column + 63) s.row (omega arith) refl at in
-            let to : IsAt g n (s.column + 63 + 1) s.row = after_at g c n (s.column + 63) s.row from beside in
-            (nat_lt (s.column + 63) between.toward.column,
-             inr (refl, (0, (first_is 0).1 refl, (omega arith, same_at g n (s.column + 63 + 1) s.row (t.column + 0) t.row (omega arith) (sym row) to)),
-               subst (λ (marks : List ℕ). IsFree g marks n) (sym has.kept.marks) free),
-             subst (λ (p : Place). IsStep g old.toward (nat_lt (s.column + 63) p.column) c n) (sym has.kept.toward) (step_to g old.toward c n (s.column + 63) s.row from Right beside))
+            let to : IsAt g n (s.column + 63 + 1) s.row = after_at g c n (s.column + 63) s.row from beside in (
+              nat_lt (s.column + 63) between.toward.column,
+              inr (
+                refl,
+                (0, (first_is 0).1 refl, (omega arith, same_at g n (s.column + 63 + 1) s.row (t.column + 0) t.row (omega arith) (sym row) to)),
+                subst (λ (marks : List ℕ). IsFree g marks n) (sym has.kept.marks) free,
+              ),
+              subst (λ (p : Place). IsStep g old.toward (nat_lt (s.column + 63) p.column) c n) (sym has.kept.toward) (step_to g old.toward c n (s.column + 63) s.row from Right beside),
+            )
         | inr other ↦ (let both = right_to c n i set (below, at) (omega arith) beside free in (false, inl (refl, both.0, free), both.1))
       ])

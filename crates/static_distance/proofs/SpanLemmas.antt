@@ -72,9 +72,9 @@ module _ (g : Terrain) where
   span_once s t is is' number =
       let numbers : s.row * stride g + is.part ≡ t.row * stride g + is'.part = sym is.number_is ∙ number ∙ is'.number_is in
       let row : s.row ≡ t.row =
-          sym (div-mul-add s.row (stride g) is.part (part_inside s is)) ∙ ap (λ (n : ℕ). n / stride g) numbers ∙ div-mul-add t.row (stride g) is'.part (part_inside t is') in
+      sym (div-mul-add s.row (stride g) is.part (part_inside s is)) ∙ ap (λ (n : ℕ). n / stride g) numbers ∙ div-mul-add t.row (stride g) is'.part (part_inside t is') in
       let part : is.part ≡ is'.part =
-          sym (mod-mul-add s.row (stride g) is.part (part_inside s is)) ∙ ap (λ (n : ℕ). n % stride g) numbers ∙ mod-mul-add t.row (stride g) is'.part (part_inside t is') in
+      sym (mod-mul-add s.row (stride g) is.part (part_inside s is)) ∙ ap (λ (n : ℕ). n % stride g) numbers ∙ mod-mul-add t.row (stride g) is'.part (part_inside t is') in
       same_spans s t number row (omega (arith, is.column_is, is'.column_is))
 
   -- a cell stands at one place of one span
@@ -82,12 +82,12 @@ module _ (g : Terrain) where
   place_once s t i j c is is' (below, (inside, high, at)) (below', (inside', high', at')) =
       let places : s.row * g.width + (s.column + i) ≡ t.row * g.width + (t.column + j) = sym at ∙ at' in
       let row : s.row ≡ t.row =
-          sym (div-mul-add s.row g.width (s.column + i) inside) ∙ ap (λ (n : ℕ). n / g.width) places ∙ div-mul-add t.row g.width (t.column + j) inside' in
+      sym (div-mul-add s.row g.width (s.column + i) inside) ∙ ap (λ (n : ℕ). n / g.width) places ∙ div-mul-add t.row g.width (t.column + j) inside' in
       let column : s.column + i ≡ t.column + j =
-          sym (mod-mul-add s.row g.width (s.column + i) inside) ∙ ap (λ (n : ℕ). n % g.width) places ∙ mod-mul-add t.row g.width (t.column + j) inside' in
+      sym (mod-mul-add s.row g.width (s.column + i) inside) ∙ ap (λ (n : ℕ). n % g.width) places ∙ mod-mul-add t.row g.width (t.column + j) inside' in
       let part : is.part ≡ is'.part = omega (arith, is.column_is, is'.column_is) in
       let number : s.number ≡ t.number =
-          is.number_is ∙ ap (λ (n : ℕ). n * stride g + is.part) row ∙ ap (λ (n : ℕ). t.row * stride g + n) part ∙ sym is'.number_is in
+      is.number_is ∙ ap (λ (n : ℕ). n * stride g + is.part) row ∙ ap (λ (n : ℕ). t.row * stride g + n) part ∙ sym is'.number_is in
       (same_spans s t number row (omega (arith, is.column_is, is'.column_is)), omega (arith, is.column_is, is'.column_is))
 
   -- ---- the cells of a span
@@ -98,10 +98,11 @@ module _ (g : Terrain) where
     cells_values i v at =
         let within : i < length (take count (drop first g.cells)) = slice_get_within (take count (drop first g.cells)) i v at in
         let below : i < count = omega (arith, length-take count (drop first g.cells)) in
-        let place : first + i ≡ s.row * g.width + (s.column + i) = omega arith in
-        (record { 0 = s.row * g.width + (s.column + i) },
-         (omega arith, (omega arith, is.row_in, refl)),
-         sym (get_drop first g.cells i (s.row * g.width + (s.column + i)) (sym place)) ∙ (sym (get_take count (drop first g.cells) i below) ∙ at))
+        let place : first + i ≡ s.row * g.width + (s.column + i) = omega arith in (
+          record { 0 = s.row * g.width + (s.column + i) },
+          (omega arith, (omega arith, is.row_in, refl)),
+          sym (get_drop first g.cells i (s.row * g.width + (s.column + i)) (sym place)) ∙ (sym (get_take count (drop first g.cells) i below) ∙ at),
+        )
 
     pub cells_all : (i : ℕ) (c : Cell) → IsCellAt g s i c → slice_get (take count (drop first g.cells)) i ≡ slice_get g.cells c.0
     cells_all i c (few, (inside, high, at)) =
@@ -120,9 +121,11 @@ module _ (g : Terrain) where
   pub stands_there : (known words : List ℕ) (s : Span) (c : Cell) → IsSpan g s → (stands : Stands g known words c) → stands.span.number ≡ s.number
       → (slice_get known s.number ≡ Some 1) × (slice_get words s.number ≡ Some stands.word) × Holds g s stands.word c
   stands_there known words s c is stands number =
-      let same : stands.span ≡ s = span_once stands.span s stands.is is number in
-      (ap (slice_get known) (sym number) ∙ stands.known_is, ap (slice_get words) (sym number) ∙ stands.at,
-       subst (λ (t : Span). Holds g t stands.word c) same stands.holds)
+      let same : stands.span ≡ s = span_once stands.span s stands.is is number in (
+        ap (slice_get known) (sym number) ∙ stands.known_is,
+        ap (slice_get words) (sym number) ∙ stands.at,
+        subst (λ (t : Span). Holds g t stands.word c) same stands.holds,
+      )
 
   -- a cell of the span stands nowhere but there
   pub stands_in : (known words : List ℕ) (s : Span) (i : ℕ) (c : Cell) → IsSpan g s → IsCellAt g s i c → Stands g known words c
@@ -195,11 +198,13 @@ module _ (g : Terrain) where
     -- no cell of the span is counted, so that those that are open are free
     open_free : (i : ℕ) (c : Cell) → IsCellAt g s i c → IsOpen g c → IsFree g d.marks c
     open_free i c cell is_open =
-        let inside : c.0 < length d.marks = omega (arith, spans.marks_fit, slice_get_within g.cells c.0 true is_open) in
-        (is_open, elim (free_or_counted d.marks c (get_or d.marks c.0 0) (slice_get-get_or d.marks c.0 0 inside)) [
-          | inl free ↦ free
-          | inr (k, counted) ↦ absurd (unknown (spans.looked s i k c is cell counted))
-        ])
+        let inside : c.0 < length d.marks = omega (arith, spans.marks_fit, slice_get_within g.cells c.0 true is_open) in (
+          is_open,
+          elim (free_or_counted d.marks c (get_or d.marks c.0 0) (slice_get-get_or d.marks c.0 0 inside)) [
+            | inl free ↦ free
+            | inr (k, counted) ↦ absurd (unknown (spans.looked s i k c is cell counted))
+          ],
+        )
 
     known_then : (k : ℕ) → slice_get d.known k ≡ Some 1 → slice_get e.known k ≡ Some 1
     known_then k at = ap (λ (xs : List ℕ). slice_get xs k) looks.known ∙ known_still d.known s.number k unknown at
@@ -379,9 +384,10 @@ module _ (g : Terrain) where
 
     held_free : (c : Cell) → Holds g s entered c → Holds g s word c × IsFree g d.marks c
     held_free c (i, set, cell) =
-        let found : (n : Cell) × IsCellAt g s i n × IsFree g m.marks n = looked.spans.free_only s free i is looked.known free_at ((both i).0 set).1 cell.0 in
-        ((i, ((both i).0 set).0, cell),
-         subst (λ (marks : List ℕ). IsFree g marks c) looked.kept.marks (subst (λ (n : Cell). IsFree g m.marks n) (cell_once s i found.0 c found.1 cell) found.2))
+        let found : (n : Cell) × IsCellAt g s i n × IsFree g m.marks n = looked.spans.free_only s free i is looked.known free_at ((both i).0 set).1 cell.0 in (
+          (i, ((both i).0 set).0, cell),
+          subst (λ (marks : List ℕ). IsFree g marks c) looked.kept.marks (subst (λ (n : Cell). IsFree g m.marks n) (cell_once s i found.0 c found.1 cell) found.2),
+        )
 
     -- there are none
     pub entered_none : (closer : Bool) → entered ≡ 0 → HasEntered g s word closer d m

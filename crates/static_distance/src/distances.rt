@@ -245,7 +245,10 @@ impl Distances {
         requires { self.now.toward.column < 2048 }
         ensures { (i : ℕ) → IsSet result i ↔ ((i < 64) × (self.now.toward.column < span.column + i)) }
     {
-        without(u64::MAX, below((self.toward.column + 1).saturating_sub(span.column)))
+        without(
+            u64::MAX,
+            below((self.toward.column + 1).saturating_sub(span.column)),
+        )
     }
 
     // Counts all cells that the word has in the span.
@@ -266,7 +269,14 @@ impl Distances {
         let _limits = grid.cells();
         let number = span.number as usize;
         let reach = self.level - span.row.abs_diff(self.toward.row);
-        mark_all(&mut self.marks, grid.width() * span.row + span.column, word, span.column, self.toward.column, reach);
+        mark_all(
+            &mut self.marks,
+            grid.width() * span.row + span.column,
+            word,
+            span.column,
+            self.toward.column,
+            reach,
+        );
         self.free[number] = without(self.free[number], word);
     }
 
@@ -282,7 +292,11 @@ impl Distances {
         if span.row == 0 {
             return Ok(());
         }
-        let above = Span { number: span.number - stride(grid), row: span.row - 1, column: span.column };
+        let above = Span {
+            number: span.number - stride(grid),
+            row: span.row - 1,
+            column: span.column,
+        };
         self.enter(grid, above, word, self.toward.row < span.row)
     }
 
@@ -299,7 +313,11 @@ impl Distances {
         if span.row + 1 >= grid.height() {
             return Ok(());
         }
-        let under = Span { number: span.number + stride(grid), row: span.row + 1, column: span.column };
+        let under = Span {
+            number: span.number + stride(grid),
+            row: span.row + 1,
+            column: span.column,
+        };
         self.enter(grid, under, word, span.row < self.toward.row)
     }
 
@@ -320,7 +338,11 @@ impl Distances {
         if span.column == 0 || !is_set(word, 0) {
             return Ok(());
         }
-        let before = Span { number: span.number - 1, row: span.row, column: span.column - 64 };
+        let before = Span {
+            number: span.number - 1,
+            row: span.row,
+            column: span.column - 64,
+        };
         self.enter(grid, before, single(63), self.toward.column < span.column)
     }
 
@@ -340,7 +362,16 @@ impl Distances {
         if span.column + 64 >= grid.width() || !is_set(word, 63) {
             return Ok(());
         }
-        let after = Span { number: span.number + 1, row: span.row, column: span.column + 64 };
-        self.enter(grid, after, single(0), span.column + 63 < self.toward.column)
+        let after = Span {
+            number: span.number + 1,
+            row: span.row,
+            column: span.column + 64,
+        };
+        self.enter(
+            grid,
+            after,
+            single(0),
+            span.column + 63 < self.toward.column,
+        )
     }
 }

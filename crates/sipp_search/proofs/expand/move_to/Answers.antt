@@ -1,4 +1,5 @@
-use Rattle.std.proofs.Common.{arith, subst, sym, refl, ◌≤◌, ◌+◌, ℕ}
+use Rattle.std.proofs.Common.{arith, subst, sym, ap, refl, ◌≡◌, ◌∙◌, ◌≤◌, ◌+◌, ℕ}
+use Rattle.bucket_queue.specs.Queue.{Queue}
 use Rattle.fleet_base.specs.declared.grid.Cell.{Cell}
 use Rattle.static_distance.specs.Distance.{IsDistance}
 use Rattle.sipp_search.specs.Marks.{spots_of}
@@ -86,3 +87,21 @@ returns-clause-led g c = λ a x agrees arrived way.
       subst (λ (n : ℕ). IsUnderWay terrain q horizon a c.reach_into.new.states.items n x) c.in_ok-first.ensures.floor led.0,
       led_only terrain q horizon a c.reach_into.new.states.items c.args.from c.args.arrival c.args.side c.in-Some.to c.in-Some.ensures.beside led.1,
     ))
+
+pub returns-clause-sound : goal.returns-clause-sound
+returns-clause-sound g c =
+    let sound = c.in_ok-first.ensures.sound in
+    let known = g.V.CalendarView.known c.block_of.new.view in
+    let terrain = c.args.task.now.grid.now in
+    let q = c.args.task.now.request in
+    let floor : c.reach_into.new.queue.floor ≡ c.block_of.new.arena.queue.floor = ap (λ (z : Queue). z.floor) c.in_ok-reach_into.ensures.queue in
+    record {
+      paired = ap (λ (z : Queue). z.keys) c.in_ok-reach_into.ensures.queue;
+      bound = c.in_ok-reach_into.ensures.bound ∙ sound.bound;
+      count = sound.count;
+      arranged = rw c.in_ok-reach_into.ensures.spots sound.arranged;
+      whole = rw (c.in_ok-reach_into.ensures.spots, floor) sound.whole;
+      aimed = sound.aimed;
+      goal_is = sound.goal_is;
+      room_is = sound.room_is;
+    }

@@ -223,3 +223,23 @@ step_back-loop-rank-preserved g t c =
 pub step_back-returns-clause-told : goal.step_back-returns-clause-told
 step_back-returns-clause-told g t c =
     λ a agrees side n u beside time. c.loop-rank.invariant.none a agrees side (omega (arith, rank_low side, c.loop-rank-test.false)) n u beside time
+
+pub arrival_at-returns-in_default-place_at-clause-ties : goal.arrival_at-returns-in_default-place_at-clause-ties
+arrival_at-returns-in_default-place_at-clause-ties g t c =
+    ties_kept c.args.task.now.grid.now c.args.task.now.request (g.V.CalendarView.known c.args.view.now) (g.V.CalendarView.known c.paused_block.new.view) c.args.ties.now c.in_ok-first.ensures.kept c.requires.ties
+
+pub arrival_at-returns-in_default-checked_sub-clause-ties : goal.arrival_at-returns-in_default-checked_sub-clause-ties
+arrival_at-returns-in_default-checked_sub-clause-ties g t c =
+    ties_kept c.args.task.now.grid.now c.args.task.now.request (g.V.CalendarView.known c.args.view.now) (g.V.CalendarView.known c.paused_block.new.view) c.args.ties.now c.in_ok-first.ensures.kept c.requires.ties
+
+pub arrival_at-returns-then-room-state-clause-ties : goal.arrival_at-returns-then-room-state-clause-ties
+arrival_at-returns-then-room-state-clause-ties g t c =
+    ties_kept c.args.task.now.grid.now c.args.task.now.request (g.V.CalendarView.known c.args.view.now) (g.V.CalendarView.known c.paused_block.new.view) c.args.ties.now c.in_ok-first.ensures.kept c.requires.ties
+
+pub arrival_at-returns-in-Some-seen_by-clause-ties : goal.arrival_at-returns-in-Some-seen_by-clause-ties
+arrival_at-returns-in-Some-seen_by-clause-ties g t c =
+    ties_kept c.args.task.now.grid.now c.args.task.now.request (g.V.CalendarView.known c.args.view.now) (g.V.CalendarView.known c.paused_block.new.view) c.args.ties.now c.in_ok-first.ensures.kept c.requires.ties
+
+pub arrival_at-returns-then-state-room-clause-ties : goal.arrival_at-returns-then-state-room-clause-ties
+arrival_at-returns-then-state-room-clause-ties g t c =
+    ties_kept c.args.task.now.grid.now c.args.task.now.request (g.V.CalendarView.known c.args.view.now) (g.V.CalendarView.known c.paused_block.new.view) c.args.ties.now c.in_ok-first.ensures.kept c.requires.ties

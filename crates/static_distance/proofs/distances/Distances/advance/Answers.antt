@@ -42,7 +42,7 @@ spread-requires-clause-flood c =
     let within = taken_within c.args.grid.now r c.in-Some.span c.pop.new.self.items (c.rise.ensures.spans c.args.grid.now c.requires.spans) c.in-Some.ensures.items in
     let len : vec_len r.here.words ≡ length r.here.words.items = search rules in
     let at : slice_get r.here.words.items c.in-Some.span.number ≡ Some c.index-seeds.result.now =
-        slice_get_read r.here.words.items (vec_len r.here.words) c.in-Some.span.number c.index-seeds.result.now len (omega arith) c.index-seeds.ensures in
+    slice_get_read r.here.words.items (vec_len r.here.words) c.in-Some.span.number c.index-seeds.result.now len (omega arith) c.index-seeds.ensures in
     taken_flood c.args.grid.now r c.in-Some.span (record { words = with_item r.here.words c.in-Some.span.number 0; spans = c.pop.new.self }) (c.rise.ensures.spans c.args.grid.now c.requires.spans) c.in-Some.ensures.items refl
     c.index-seeds.result.now at (c.rise.ensures.flood c.args.grid.now c.requires.spans c.requires.flood)
 

@@ -17,8 +17,15 @@ returns-in_ok-add-clause-aimed c =
     let cells = length c.fit.new.self.marks in
     let spans = length c.fit.new.self.known in
     let d : Distances = record {
-      alloc = c.fit.new.self.alloc; goal = c.args.goal; toward = c.place_of-self.result; marks = c.clear.new.self; known = c.clear-2.new.self; free = c.fit.new.self.free; level = c.moves_between-self.result;
-      here = record { words = c.fit.new.self.here.words; spans = c.clear-3.new.self }; next = record { words = c.fit.new.self.next.words; spans = c.clear-4.new.self };
+      alloc = c.fit.new.self.alloc;
+      goal = c.args.goal;
+      toward = c.place_of-self.result;
+      marks = c.clear.new.self;
+      known = c.clear-2.new.self;
+      free = c.fit.new.self.free;
+      level = c.moves_between-self.result;
+      here = record { words = c.fit.new.self.here.words; spans = c.clear-3.new.self };
+      next = record { words = c.fit.new.self.next.words; spans = c.clear-4.new.self };
     } in
     let looked : HasLooked g c.span_at-span.result d c.look_at.new.self = c.look_at.ensures.looked in
     let place : IsCellAt g c.span_at-span.result (c.place_of-place.result.column - c.span_at-span.result.column) c.args.goal = c.span_at-span.ensures.held in
@@ -42,8 +49,15 @@ returns-else-is_open-clause-aimed c =
     let cells = length c.fit.new.self.marks in
     let spans = length c.fit.new.self.known in
     let d : Distances = record {
-      alloc = c.fit.new.self.alloc; goal = c.args.goal; toward = c.place_of-self.result; marks = c.clear.new.self; known = c.clear-2.new.self; free = c.fit.new.self.free; level = c.moves_between-self.result;
-      here = record { words = c.fit.new.self.here.words; spans = c.clear-3.new.self }; next = record { words = c.fit.new.self.next.words; spans = c.clear-4.new.self };
+      alloc = c.fit.new.self.alloc;
+      goal = c.args.goal;
+      toward = c.place_of-self.result;
+      marks = c.clear.new.self;
+      known = c.clear-2.new.self;
+      free = c.fit.new.self.free;
+      level = c.moves_between-self.result;
+      here = record { words = c.fit.new.self.here.words; spans = c.clear-3.new.self };
+      next = record { words = c.fit.new.self.next.words; spans = c.clear-4.new.self };
     } in
     let on_level : c.moves_between-self.result ≡ apart g c.place_of-self.result c.args.goal = omega (arith, c.moves_between-self.ensures.moves, c.place_of-place.ensures.place) in
     let all : uncounted c.clear.new.self ≡ cells = ap uncounted c.clear.ensures ∙ all_uncounted cells in

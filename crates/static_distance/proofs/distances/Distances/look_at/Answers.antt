@@ -8,5 +8,5 @@ returns c = record {
   looked = has_looked c.args.grid.now c.args.self.now _ c.args.span c.cells_of.result.now c.open_places.result c.requires.span c.requires.spans
       (λ known. c.if-get-eq1.false (same_Some c.get.result 1 (sym c.get.ensures ∙ known)))
       c.cells_of.ensures.values c.cells_of.ensures.all c.open_places.ensures
-      (record { goal = refl; toward = refl; level = refl; marks = refl; known = c.set.ensures; free = refl; here = refl; next = refl; here_spans = refl; next_spans = refl })
+      (record { goal = refl; toward = refl; level = refl; marks = refl; known = c.set.ensures; free = refl; here = refl; next = refl; here_spans = refl; next_spans = refl });
 }

@@ -9,7 +9,7 @@ pub returns-then-span-eq0-clause-spread : goal.returns-then-span-eq0-clause-spre
 returns-then-span-eq0-clause-spread c = spread_left_within c.args.grid.now c.args.span c.args.word c.lowered-away.result c.args.self.now c.requires.span
     c.requires.inside c.ranges.word.fits c.requires.shut
     (away_left c.args.word c.falling.result c.without.result c.lowered-away.result c.args.span.column c.args.self.now.toward.column c.ranges.word.fits
-      c.falling.ensures c.without.ensures c.lowered-away.ensures)
+    c.falling.ensures c.without.ensures c.lowered-away.ensures)
     c.enter.new.self
     (elim c.then-span-eq0.branch [
       | then-span-eq0-via-then-span-eq0 w ↦ inl w.if-span-eq0.true
@@ -29,9 +29,9 @@ enter-requires-2-clause-span c = record {
 pub returns-clause-spread : goal.returns-clause-spread
 returns-clause-spread c = on_ok_weaker c.enter-2.result
     (λ has. spread_left_out c.args.grid.now c.args.span c.args.word c.lowered-away.result c.args.self.now c.requires.span
-      c.requires.inside c.ranges.word.fits c.requires.shut
-      (away_left c.args.word c.falling.result c.without.result c.lowered-away.result c.args.span.column c.args.self.now.toward.column c.ranges.word.fits
-        c.falling.ensures c.without.ensures c.lowered-away.ensures)
-      _ c.single.result c.enter.new.self c.enter-2.new.self refl (omega arith) (c.is_set.ensures.0 c.if-not-is_set.false) c.single.ensures
-      c.in_ok-enter.ensures.entered has)
+    c.requires.inside c.ranges.word.fits c.requires.shut
+    (away_left c.args.word c.falling.result c.without.result c.lowered-away.result c.args.span.column c.args.self.now.toward.column c.ranges.word.fits
+    c.falling.ensures c.without.ensures c.lowered-away.ensures)
+    _ c.single.result c.enter.new.self c.enter-2.new.self refl (omega arith) (c.is_set.ensures.0 c.if-not-is_set.false) c.single.ensures
+    c.in_ok-enter.ensures.entered has)
     c.enter-2.ensures.entered
