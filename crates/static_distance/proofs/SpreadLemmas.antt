@@ -169,6 +169,16 @@ module _ (g : Terrain) where
         let near : apart g f.toward d ≤ apart g f.toward c + 1 = low_apart g f.toward side c d beside in
         known_counted c (k + 1) below (led_on c d side k opened beside (complete rest (omega arith)))
 
+    -- a cell that isn't counted lies on this level or a later one
+    pub flood_far : (c : Cell) → slice_get f.marks c.0 ≡ Some 0 → (k : ℕ) → IsWay g f.goal c k → f.level ≤ k + apart g f.toward c
+    flood_far c none k way = elim (cases_lt (k + apart g f.toward c) f.level) [
+      | inr far ↦ far
+      | inl less ↦ absurd (
+          let has : HasCountBelow c k = complete way less in
+          let bad : 0 ≡ suc has.0 = same_Some 0 (suc has.0) (sym none ∙ has.2) in
+          omega arith)
+    ]
+
     pub flood_distance : (c : Cell) (k : ℕ) → IsCounted f.marks c k → IsDistance g f.goal c k
     flood_distance c k counted = record {
       way = is.sound c k counted;

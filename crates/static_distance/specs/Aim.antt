@@ -46,6 +46,10 @@ abbrev pub AnswersDistance : Terrain → Cell → Cell → Option ℕ → Type 0
 AnswersDistance g goal c (Some d) = IsDistance g goal c d
 AnswersDistance g goal c None = (k : ℕ) → ¬ (IsWay g goal c k)
 
+-- a way of so many moves or fewer leads from c to the goal
+abbrev pub IsWithin : Terrain → Cell → Cell → ℕ → Type 0
+IsWithin g goal c moves = (k : ℕ) × IsWay g goal c k × (k ≤ moves)
+
 -- the span was looked at, and no other cells wait than before
 pub record HasLooked (g : Terrain) (span : Span) (old new : Distances) : Type 0 where
   pub spans : AreSpans g new

@@ -1,4 +1,4 @@
-ghost use Rattle.std.specs.Prelude.{◌≡◌, ◌≢◌, ℕ, ◌+◌, ◌*◌, ◌<◌, ◌≤◌, ◌↔◌, [], ◌∷◌, ◌++◌, length, Some, IfOk, OnOk, IfSome, IfNone, slice_get};
+ghost use Rattle.std.specs.Prelude.{◌≡◌, ◌≢◌, ℕ, ◌+◌, ◌*◌, ◌<◌, ◌≤◌, ◌↔◌, [], ◌∷◌, ◌++◌, length, Some, IfOk, OnOk, IfSome, IfNone, IsTrue, slice_get};
 ghost use Rattle.std.specs.Bool.{OnTrue, OnFalse};
 
 use crate::marking::mark_all;
@@ -37,7 +37,7 @@ impl Distances {
     ghost use Rattle.static_distance.specs.Levels.{IsPlaceOf, apart, uncounted};
     ghost use Rattle.static_distance.specs.Spreading.{IsFlood};
     ghost use Rattle.static_distance.specs.Spans.{stride, IsSpan, Holds, IsFree, AreSpans, flood_of, flood_with, HasEntered, HasSpreadTo, HasCounted, IsShut};
-    ghost use Rattle.static_distance.specs.Aim.{room, waiting, work, KeepsAim, IsAimed, AnswersDistance, AreFitting, HasLooked, HasNoMore};
+    ghost use Rattle.static_distance.specs.Aim.{room, waiting, work, KeepsAim, IsAimed, AnswersDistance, IsWithin, AreFitting, HasLooked, HasNoMore};
 
     /// For grids of that many cells. Nothing is counted before it is aimed at a goal.
     pub fn new(alloc: Global, cells: usize) -> Result<Distances, Memory>
@@ -121,6 +121,30 @@ impl Distances {
             }
         }
         Ok(Some(self.marks.get(cell.0 as usize) - 1))
+    }
+
+    /// Whether a way of so many moves leads from a cell to the goal, or of fewer. It counts no farther than that takes.
+    pub fn is_within(&mut self, grid: &Grid, cell: Cell, moves: u32) -> Result<bool, Memory>
+        requires aimed { IsAimed grid.now self.old }
+        requires cell { cell.0 < length grid.now.cells }
+        ensures within { IfOk result (λ yes. IsTrue yes ↔ IsWithin grid.now self.old.goal cell moves) }
+        ensures aimed { OnOk result (IsAimed grid.now self.new) }
+        ensures goal { self.new.goal ≡ self.old.goal }
+        ensures room { room self.new ≡ room self.old }
+    {
+        if !grid.is_open(cell) {
+            return Ok(false);
+        }
+        let last = moves.saturating_add(moves_between(place_of(grid, cell), self.toward));
+        while self.marks.get(cell.0 as usize) == 0 {
+            if self.level > last {
+                return Ok(false);
+            }
+            if !self.advance(grid)? {
+                return Ok(false);
+            }
+        }
+        Ok(self.marks.get(cell.0 as usize) - 1 <= moves)
     }
 
     // Counts the waiting cells of one span more, or finds that they were counted before. False where none waits.
@@ -219,15 +243,17 @@ impl Distances {
         ensures work { OnOk result (work self.new ≤ work self.old) }
     {
         let free = self.free[span.number as usize];
-        let batch = filled(seeds, free, self.rising(span), self.falling(span));
+        let rising = self.rising(span);
+        let falling = self.falling(span);
+        let batch = filled(seeds, free, rising, falling);
         if batch == 0 {
             return Ok(());
         }
         self.count(grid, span, batch);
         self.spread_up(grid, span, batch)?;
         self.spread_down(grid, span, batch)?;
-        self.spread_left(grid, span, batch)?;
-        self.spread_right(grid, span, batch)?;
+        self.spread_left(grid, span, batch, falling)?;
+        self.spread_right(grid, span, batch, rising)?;
         Ok(())
     }
 
@@ -321,10 +347,10 @@ impl Distances {
         self.enter(grid, under, word, span.row < self.toward.row)
     }
 
-    fn spread_left(&mut self, grid: &Grid, span: Span, word: u64) -> Result<(), Memory>
+    fn spread_left(&mut self, grid: &Grid, span: Span, word: u64, falling: u64) -> Result<(), Memory>
         requires span { IsSpan grid.now span }
         requires spans { AreSpans grid.now self.old }
-        requires near { self.old.toward.column < 2048 }
+        requires falling { (i : ℕ) → IsSet falling i ↔ ((i < 64) × (self.old.toward.column < span.column + i)) }
         requires inside { (i : ℕ) → IsSet word i → span.column + i < grid.now.width }
         requires shut { IsShut grid.now Left span word self.old }
         ensures spans { OnOk result (AreSpans grid.now self.new) }
@@ -333,7 +359,7 @@ impl Distances {
         ensures marks { self.new.marks ≡ self.old.marks }
         ensures spread { OnOk result (HasSpreadTo grid.now Left span word self.old self.new) }
     {
-        let away = lowered(without(word, self.falling(span)));
+        let away = lowered(without(word, falling));
         self.enter(grid, span, away, false)?;
         if span.column == 0 || !is_set(word, 0) {
             return Ok(());
@@ -346,9 +372,10 @@ impl Distances {
         self.enter(grid, before, single(63), self.toward.column < span.column)
     }
 
-    fn spread_right(&mut self, grid: &Grid, span: Span, word: u64) -> Result<(), Memory>
+    fn spread_right(&mut self, grid: &Grid, span: Span, word: u64, rising: u64) -> Result<(), Memory>
         requires span { IsSpan grid.now span }
         requires spans { AreSpans grid.now self.old }
+        requires rising { (i : ℕ) → IsSet rising i ↔ ((i < 64) × (span.column + i < self.old.toward.column)) }
         requires shut { IsShut grid.now Right span word self.old }
         ensures spans { OnOk result (AreSpans grid.now self.new) }
         ensures count { OnOk result (waiting self.new ≤ waiting self.old + 2) }
@@ -356,7 +383,7 @@ impl Distances {
         ensures marks { self.new.marks ≡ self.old.marks }
         ensures spread { OnOk result (HasSpreadTo grid.now Right span word self.old self.new) }
     {
-        let away = raised(without(word, self.rising(span)));
+        let away = raised(without(word, rising));
         self.enter(grid, span, away, false)?;
         let _limits = grid.cells();
         if span.column + 64 >= grid.width() || !is_set(word, 63) {

@@ -13,8 +13,8 @@ returns-then-batch-eq0-clause-flood c =
     let now = c.args.self.now in
     let free = c.index-free.result.now in
     let at : slice_get now.free.items c.args.span.number ≡ Some free = slice_get_read now.free.items (vec_len now.free) c.args.span.number free (search rules) (search rules) c.index-free.ensures in
-    passed_spans g c.args.span c.args.seeds free c.rising.result c.falling.result c.filled-batch.result now c.requires.span c.requires.known c.requires.spans at (λ i set. set_below free i (search rules) set)
-    c.rising.ensures c.falling.ensures c.filled-batch.ensures c.requires.flood c.if-batch-eq0.true
+    passed_spans g c.args.span c.args.seeds free c.rising-rising.result c.falling-falling.result c.filled-batch.result now c.requires.span c.requires.known c.requires.spans at (λ i set. set_below free i (search rules) set)
+    c.rising-rising.ensures c.falling-falling.ensures c.filled-batch.ensures c.requires.flood c.if-batch-eq0.true
 
 pub count-requires-clause-free : goal.count-requires-clause-free
 count-requires-clause-free c =
@@ -22,8 +22,8 @@ count-requires-clause-free c =
     let now = c.args.self.now in
     let free = c.index-free.result.now in
     let at : slice_get now.free.items c.args.span.number ≡ Some free = slice_get_read now.free.items (vec_len now.free) c.args.span.number free (search rules) (search rules) c.index-free.ensures in
-    (λ i set w at_w. subst (λ (z : ℕ). IsSet z i) (same_Some free w (sym at ∙ at_w)) (batch_free g c.args.span c.args.seeds free c.rising.result c.falling.result c.filled-batch.result now c.requires.span c.requires.known c.requires.spans at (λ i set. set_below free i (search rules) set)
-    c.rising.ensures c.falling.ensures c.filled-batch.ensures c.requires.flood i set))
+    (λ i set w at_w. subst (λ (z : ℕ). IsSet z i) (same_Some free w (sym at ∙ at_w)) (batch_free g c.args.span c.args.seeds free c.rising-rising.result c.falling-falling.result c.filled-batch.result now c.requires.span c.requires.known c.requires.spans at (λ i set. set_below free i (search rules) set)
+    c.rising-rising.ensures c.falling-falling.ensures c.filled-batch.ensures c.requires.flood i set))
 
 pub count-requires-clause-on_level : goal.count-requires-clause-on_level
 count-requires-clause-on_level c =
@@ -31,8 +31,8 @@ count-requires-clause-on_level c =
     let now = c.args.self.now in
     let free = c.index-free.result.now in
     let at : slice_get now.free.items c.args.span.number ≡ Some free = slice_get_read now.free.items (vec_len now.free) c.args.span.number free (search rules) (search rules) c.index-free.ensures in
-    batch_low g c.args.span c.args.seeds free c.rising.result c.falling.result c.filled-batch.result now c.requires.span c.requires.known c.requires.spans at (λ i set. set_below free i (search rules) set)
-    c.rising.ensures c.falling.ensures c.filled-batch.ensures c.requires.flood
+    batch_low g c.args.span c.args.seeds free c.rising-rising.result c.falling-falling.result c.filled-batch.result now c.requires.span c.requires.known c.requires.spans at (λ i set. set_below free i (search rules) set)
+    c.rising-rising.ensures c.falling-falling.ensures c.filled-batch.ensures c.requires.flood
 
 pub spread_left-requires-clause-inside : goal.spread_left-requires-clause-inside
 spread_left-requires-clause-inside c =
@@ -40,8 +40,8 @@ spread_left-requires-clause-inside c =
     let now = c.args.self.now in
     let free = c.index-free.result.now in
     let at : slice_get now.free.items c.args.span.number ≡ Some free = slice_get_read now.free.items (vec_len now.free) c.args.span.number free (search rules) (search rules) c.index-free.ensures in
-    free_inside g c.args.span c.filled-batch.result free now c.requires.span c.requires.spans c.requires.known at (search rules) (batch_free g c.args.span c.args.seeds free c.rising.result c.falling.result c.filled-batch.result now c.requires.span c.requires.known c.requires.spans at (λ i set. set_below free i (search rules) set)
-    c.rising.ensures c.falling.ensures c.filled-batch.ensures c.requires.flood)
+    free_inside g c.args.span c.filled-batch.result free now c.requires.span c.requires.spans c.requires.known at (search rules) (batch_free g c.args.span c.args.seeds free c.rising-rising.result c.falling-falling.result c.filled-batch.result now c.requires.span c.requires.known c.requires.spans at (λ i set. set_below free i (search rules) set)
+    c.rising-rising.ensures c.falling-falling.ensures c.filled-batch.ensures c.requires.flood)
 
 pub spread_left-requires-clause-shut : goal.spread_left-requires-clause-shut
 spread_left-requires-clause-shut c =
@@ -49,8 +49,8 @@ spread_left-requires-clause-shut c =
     let now = c.args.self.now in
     let free = c.index-free.result.now in
     let at : slice_get now.free.items c.args.span.number ≡ Some free = slice_get_read now.free.items (vec_len now.free) c.args.span.number free (search rules) (search rules) c.index-free.ensures in
-    shut_left g c.args.span c.args.seeds free c.rising.result c.falling.result c.filled-batch.result now c.requires.span c.requires.known c.requires.spans at (λ i set. set_below free i (search rules) set)
-    c.rising.ensures c.falling.ensures c.filled-batch.ensures c.requires.flood
+    shut_left g c.args.span c.args.seeds free c.rising-rising.result c.falling-falling.result c.filled-batch.result now c.requires.span c.requires.known c.requires.spans at (λ i set. set_below free i (search rules) set)
+    c.rising-rising.ensures c.falling-falling.ensures c.filled-batch.ensures c.requires.flood
     c.count.new.self c.spread_down.new.self c.count.ensures.counted (c.spread_down.ensures.marks ∙ c.spread_up.ensures.marks)
     (c.in_ok-spread_down.ensures.spread.kept.toward ∙ (c.in_ok-spread_up.ensures.spread.kept.toward ∙ c.count.ensures.counted.toward))
 
@@ -60,8 +60,8 @@ spread_right-requires-clause-shut c =
     let now = c.args.self.now in
     let free = c.index-free.result.now in
     let at : slice_get now.free.items c.args.span.number ≡ Some free = slice_get_read now.free.items (vec_len now.free) c.args.span.number free (search rules) (search rules) c.index-free.ensures in
-    shut_right g c.args.span c.args.seeds free c.rising.result c.falling.result c.filled-batch.result now c.requires.span c.requires.known c.requires.spans at (λ i set. set_below free i (search rules) set)
-    c.rising.ensures c.falling.ensures c.filled-batch.ensures c.requires.flood
+    shut_right g c.args.span c.args.seeds free c.rising-rising.result c.falling-falling.result c.filled-batch.result now c.requires.span c.requires.known c.requires.spans at (λ i set. set_below free i (search rules) set)
+    c.rising-rising.ensures c.falling-falling.ensures c.filled-batch.ensures c.requires.flood
     c.count.new.self c.spread_left.new.self c.count.ensures.counted (c.spread_left.ensures.marks ∙ (c.spread_down.ensures.marks ∙ c.spread_up.ensures.marks))
     (c.in_ok-spread_left.ensures.spread.kept.toward ∙ (c.in_ok-spread_down.ensures.spread.kept.toward ∙ (c.in_ok-spread_up.ensures.spread.kept.toward ∙ c.count.ensures.counted.toward)))
 
@@ -71,7 +71,7 @@ returns-clause-flood c =
     let now = c.args.self.now in
     let free = c.index-free.result.now in
     let at : slice_get now.free.items c.args.span.number ≡ Some free = slice_get_read now.free.items (vec_len now.free) c.args.span.number free (search rules) (search rules) c.index-free.ensures in
-    spread_spans g c.args.span c.args.seeds free c.rising.result c.falling.result c.filled-batch.result now c.requires.span c.requires.known c.requires.spans at (λ i set. set_below free i (search rules) set)
-    c.rising.ensures c.falling.ensures c.filled-batch.ensures c.requires.flood
+    spread_spans g c.args.span c.args.seeds free c.rising-rising.result c.falling-falling.result c.filled-batch.result now c.requires.span c.requires.known c.requires.spans at (λ i set. set_below free i (search rules) set)
+    c.rising-rising.ensures c.falling-falling.ensures c.filled-batch.ensures c.requires.flood
     c.count.new.self c.spread_up.new.self c.spread_down.new.self c.spread_left.new.self c.spread_right.new.self c.count.ensures.counted
     c.in_ok-spread_up.ensures.spread c.in_ok-spread_down.ensures.spread c.in_ok-spread_left.ensures.spread c.in_ok-spread_right.ensures.spread c.count.ensures.spans.marks_fit

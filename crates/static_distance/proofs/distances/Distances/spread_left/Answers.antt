@@ -8,8 +8,8 @@ use Rattle.static_distance.proofs.distances.Distances.spread_left.Goals.{then-sp
 pub returns-then-span-eq0-clause-spread : goal.returns-then-span-eq0-clause-spread
 returns-then-span-eq0-clause-spread c = spread_left_within c.args.grid.now c.args.span c.args.word c.lowered-away.result c.args.self.now c.requires.span
     c.requires.inside c.ranges.word.fits c.requires.shut
-    (away_left c.args.word c.falling.result c.without.result c.lowered-away.result c.args.span.column c.args.self.now.toward.column c.ranges.word.fits
-    c.falling.ensures c.without.ensures c.lowered-away.ensures)
+    (away_left c.args.word c.args.falling c.without.result c.lowered-away.result c.args.span.column c.args.self.now.toward.column c.ranges.word.fits
+    c.requires.falling c.without.ensures c.lowered-away.ensures)
     c.enter.new.self
     (elim c.then-span-eq0.branch [
       | then-span-eq0-via-then-span-eq0 w ↦ inl w.if-span-eq0.true
@@ -30,8 +30,8 @@ pub returns-clause-spread : goal.returns-clause-spread
 returns-clause-spread c = on_ok_weaker c.enter-2.result
     (λ has. spread_left_out c.args.grid.now c.args.span c.args.word c.lowered-away.result c.args.self.now c.requires.span
     c.requires.inside c.ranges.word.fits c.requires.shut
-    (away_left c.args.word c.falling.result c.without.result c.lowered-away.result c.args.span.column c.args.self.now.toward.column c.ranges.word.fits
-    c.falling.ensures c.without.ensures c.lowered-away.ensures)
+    (away_left c.args.word c.args.falling c.without.result c.lowered-away.result c.args.span.column c.args.self.now.toward.column c.ranges.word.fits
+    c.requires.falling c.without.ensures c.lowered-away.ensures)
     _ c.single.result c.enter.new.self c.enter-2.new.self refl (omega arith) (c.is_set.ensures.0 c.if-not-is_set.false) c.single.ensures
     c.in_ok-enter.ensures.entered has)
     c.enter-2.ensures.entered

@@ -7,8 +7,8 @@ use Rattle.static_distance.proofs.distances.Distances.spread_right.Goals.{then-s
 
 pub returns-then-span-width-clause-spread : goal.returns-then-span-width-clause-spread
 returns-then-span-width-clause-spread c = spread_right_within c.args.grid.now c.args.span c.args.word c.raised-away.result c.args.self.now c.requires.span c.requires.shut
-    (away_right c.args.word c.rising.result c.without.result c.raised-away.result c.args.span.column c.args.self.now.toward.column c.ranges.word.fits
-    c.rising.ensures c.without.ensures c.raised-away.ensures)
+    (away_right c.args.word c.args.rising c.without.result c.raised-away.result c.args.span.column c.args.self.now.toward.column c.ranges.word.fits
+    c.requires.rising c.without.ensures c.raised-away.ensures)
     c.enter.new.self
     (elim c.then-span-width.branch [
       | then-span-width-via-then-span-width w ↦ inl (omega arith)
@@ -28,8 +28,8 @@ enter-requires-2-clause-span c = record {
 pub returns-clause-spread : goal.returns-clause-spread
 returns-clause-spread c = on_ok_weaker c.enter-2.result
     (λ has. spread_right_out c.args.grid.now c.args.span c.args.word c.raised-away.result c.args.self.now c.requires.span c.requires.shut
-    (away_right c.args.word c.rising.result c.without.result c.raised-away.result c.args.span.column c.args.self.now.toward.column c.ranges.word.fits
-    c.rising.ensures c.without.ensures c.raised-away.ensures)
+    (away_right c.args.word c.args.rising c.without.result c.raised-away.result c.args.span.column c.args.self.now.toward.column c.ranges.word.fits
+    c.requires.rising c.without.ensures c.raised-away.ensures)
     _ c.single.result c.enter.new.self c.enter-2.new.self refl refl (c.is_set.ensures.0 c.if-not-is_set.false) c.single.ensures
     c.in_ok-enter.ensures.entered has)
     c.enter-2.ensures.entered
