@@ -1,9 +1,10 @@
 -- What the states tell once the goal is taken, while others of the same key are still queued or not yet seen.
 use Rattle.std.proofs.Common.{arith, subst, sym, ap, ◌∙◌, refl, inl, inr, set}
 use Rattle.std.proofs.lemmas.List.{length-set}
-use Rattle.std.proofs.lemmas.Bool.{cases_lt}
+use Rattle.std.proofs.lemmas.Bool.{cases_lt, false≢true}
+use Rattle.std.specs.Bool.{OnTrue}
 use Rattle.std.proofs.lemmas.Option.{slice_get_within, same_Some}
-use Rattle.std.specs.Prelude.{◌≡◌, ℕ, suc, ◌+◌, ◌<◌, ◌≤◌, ◌⊎◌, false, List, Option, Some, None, IsSome, length, slice_get}
+use Rattle.std.specs.Prelude.{Bool, true, not, ◌≡◌, ℕ, suc, ◌+◌, ◌<◌, ◌≤◌, ◌⊎◌, false, List, Option, Some, None, IsSome, length, slice_get}
 use Rattle.fleet_base.specs.declared.grid.Cell.{Cell}
 use Rattle.fleet_base.specs.declared.grid.Side.{Side}
 use Rattle.fleet_base.specs.declared.request.Record.{Record}
@@ -37,6 +38,11 @@ use Rattle.sipp_search.proofs.Ending.{lead_each, states_within, lists_before, in
 use Rattle.sipp_search.proofs.Backward.{back_beside, last_step, earliest_of}
 use Rattle.sipp_search.proofs.Moving.{agrees_before, grown_improves, grown_way, some_of}
 use Rattle.sipp_search.proofs.Blocks.{of_arena, spots_right}
+
+-- what follows where a truth value is false
+pub on_not : (b : Bool) (P : Type 0) → ((b ≡ true → ⊥) → P) → OnTrue (not b) P
+on_not true P follows = tt
+on_not false P follows = follows (λ e. false≢true e)
 
 -- The moves from the start.
 module _ (g : Terrain) (q : Request) (a : Assignment) where

@@ -94,10 +94,8 @@ fn is_too_far(task: &Task, ties: &mut Ties, cell: Cell, time: u32) -> Result<boo
         ties.looked += 1;
         return Ok(false);
     }
-    let Some(moves) = ties.from_start.to_goal(task.grid, cell)? else {
-        return Ok(true);
-    };
-    Ok(since < moves)
+    let near = ties.from_start.is_within(task.grid, cell, since)?;
+    Ok(!near)
 }
 
 // The arrival that is known of a state, where it isn't after the time.

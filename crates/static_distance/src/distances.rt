@@ -347,7 +347,13 @@ impl Distances {
         self.enter(grid, under, word, span.row < self.toward.row)
     }
 
-    fn spread_left(&mut self, grid: &Grid, span: Span, word: u64, falling: u64) -> Result<(), Memory>
+    fn spread_left(
+        &mut self,
+        grid: &Grid,
+        span: Span,
+        word: u64,
+        falling: u64,
+    ) -> Result<(), Memory>
         requires span { IsSpan grid.now span }
         requires spans { AreSpans grid.now self.old }
         requires falling { (i : ℕ) → IsSet falling i ↔ ((i < 64) × (self.old.toward.column < span.column + i)) }
@@ -372,7 +378,13 @@ impl Distances {
         self.enter(grid, before, single(63), self.toward.column < span.column)
     }
 
-    fn spread_right(&mut self, grid: &Grid, span: Span, word: u64, rising: u64) -> Result<(), Memory>
+    fn spread_right(
+        &mut self,
+        grid: &Grid,
+        span: Span,
+        word: u64,
+        rising: u64,
+    ) -> Result<(), Memory>
         requires span { IsSpan grid.now span }
         requires spans { AreSpans grid.now self.old }
         requires rising { (i : ℕ) → IsSet rising i ↔ ((i < 64) × (span.column + i < self.old.toward.column)) }
