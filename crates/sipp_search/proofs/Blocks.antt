@@ -1,5 +1,5 @@
 -- The arena: what a block tells of its cell, and that a cell touched for the first time gets its block.
-use Rattle.std.proofs.Common.{arith, subst, sym, ap, ◌∙◌, refl, inl, inr, set, get_or, length-append}
+use Rattle.std.proofs.Common.{arith, subst, sym, ap, ◌∙◌, refl, inl, inr, set, get_or, length-append, append_assoc}
 use Rattle.std.proofs.lemmas.List.{length-map, map-append, map_push}
 use Rattle.std.proofs.lemmas.Bool.{cases_order, false≢true}
 use Rattle.std.proofs.lemmas.Option.{slice_get_within, same_Some, none-some, get_or_from_slice_get, slice_get-get_or}
@@ -261,8 +261,15 @@ pub spots-for : (c : Cell) (left : ℕ) (list : List Interval) → spots_of (sta
 spots-for c left [] = refl
 spots-for c left (i ∷ list) = ap (λ (xs : List Spot). spot_of c left i ∷ xs) (spots-for c left list)
 
-pub states-push : (c : Cell) (left : ℕ) (list : List Interval) (i : Interval) → states_for c left (list ++ i ∷ []) ≡ states_for c left list ++ unseen (spot_of c left i) ∷ []
+states-push : (c : Cell) (left : ℕ) (list : List Interval) (i : Interval) → states_for c left (list ++ i ∷ []) ≡ states_for c left list ++ unseen (spot_of c left i) ∷ []
 states-push c left list i = map_push (λ z. unseen (spot_of c left z)) list i
+
+-- one more state behind those of some intervals
+pub state-added : (old : List State) {before now : List State} (c : Cell) (left : ℕ) (list : List Interval) (i : Interval) → before ≡ old ++ states_for c left list
+    → now ≡ before ++ unseen (spot_of c left i) ∷ [] → now ≡ old ++ states_for c left (list ++ i ∷ [])
+state-added old c left list i is added =
+    added ∙ (ap (λ (xs : List State). xs ++ unseen (spot_of c left i) ∷ []) is ∙ (append_assoc old (states_for c left list) (unseen (spot_of c left i) ∷ [])
+    ∙ ap (λ (xs : List State). old ++ xs) (sym (states-push c left list i))))
 
 pub spots-added : (old new : List State) (c : Cell) (left : ℕ) (list : List Interval) → new ≡ old ++ states_for c left list → spots_of new ≡ spots_of old ++ spots_for c left list
 spots-added old new c left list is =

@@ -13,3 +13,4 @@ pub mod Beginning
 pub mod Answering
 pub mod Serving
 pub mod Paused
+pub mod Gaps

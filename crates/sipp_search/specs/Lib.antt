@@ -9,3 +9,4 @@ pub mod Running
 pub mod Back
 pub mod Tabled
 pub mod Ties
+pub mod Passed

@@ -4,29 +4,74 @@ ghost use Rattle.fleet_base.specs.Terrain.{Terrain};
 ghost use Rattle.safe_intervals.specs.declared.interval.Interval.{Interval as AnInterval};
 ghost use Rattle.safe_intervals.specs.Safe.{AreSafeFrom};
 ghost use Rattle.static_distance.specs.Distance.{IsWay, IsDistance};
+ghost use Rattle.sipp_search.specs.Passed.{ArePassed};
 ghost use Rattle.sipp_search.specs.Marks.{spots_of, keys_of, unseen};
-ghost use Rattle.sipp_search.specs.Arena.{states_for, IsBlock, HasTimes, AreWhole, IsArena};
+ghost use Rattle.sipp_search.specs.Arena.{spot_of, states_for, IsBlock, HasTimes, AreWhole, IsArena};
 ghost use Rattle.sipp_search.specs.Running.{IsReady, IsSound, Serves, KeepsKnown, HasGrown};
 
 use crate::states::{Arena, Mark, Spot, State};
 use crate::task::Task;
 use bucket_queue::BucketQueue;
 use calendars::{Calendar, CalendarView};
-use fleet_base::{Cell, Memory};
-use safe_intervals::{begun_by, gap_after};
+use fleet_base::{Cell, Memory, Record};
+use safe_intervals::{Interval, begun_by};
 
-fn add_state(states: &mut Vec<State>, queue: &mut BucketQueue, spot: Spot) -> Result<(), Memory>
+// Adds an unseen state for a range of times in the spot's cell.
+#[inline(always)]
+fn add_state(
+    states: &mut Vec<State>,
+    queue: &mut BucketQueue,
+    rest: Spot,
+    from: u32,
+    to: u32,
+) -> Result<(), Memory>
     requires { queue.old.keys ≡ keys_of states.old.items }
-    ensures states { OnOk result (states.new.items ≡ states.old.items ++ unseen spot ∷ []) }
+    ensures states { OnOk result (states.new.items ≡ states.old.items ++ unseen (spot_of rest.cell rest.left (record { from = from; to = to })) ∷ []) }
     ensures queue { OnOk result (queue.new ≡ record queue.old { keys = keys_of states.new.items }) }
     ensures bound { queue.new.bound ≡ queue.old.bound }
 {
     queue.add()?;
     states.push(State {
-        spot,
+        spot: Spot {
+            interval: Interval { from, to },
+            ..rest
+        },
         mark: Mark::Unseen,
     })?;
     Ok(())
+}
+
+// Adds an unseen state for each safe interval of a spot's cell within the spot's times, which begin where the records
+// before the place are over and end at the horizon. It goes over the other records once.
+fn add_rest(
+    states: &mut Vec<State>,
+    queue: &mut BucketQueue,
+    records: &[Record],
+    begun: usize,
+    rest: Spot,
+) -> Result<(), Memory>
+    requires some { rest.interval.from ≤ rest.interval.to }
+    requires horizon { rest.interval.to ≤ 8000 }
+    requires passed { ArePassed records.now begun rest.interval.from }
+    requires paired { queue.old.keys ≡ keys_of states.old.items }
+    ensures states { OnOk result ((list : List AnInterval) × AreSafeFrom records.now rest.interval.to rest.interval.from list × (states.new.items ≡ states.old.items ++ states_for rest.cell rest.left list)) }
+    ensures queue { OnOk result (queue.new ≡ record queue.old { keys = keys_of states.new.items }) }
+    ensures bound { queue.new.bound ≡ queue.old.bound }
+{
+    let horizon = rest.interval.to;
+    let mut low = rest.interval.from;
+    for place in begun..records.len() {
+        let next = records[place];
+        if low < next.from {
+            let to = (next.from - 1).min(horizon);
+            add_state(states, queue, rest, low, to)?;
+        }
+        if next.to >= horizon {
+            return Ok(());
+        }
+        low = next.to + 1;
+    }
+    add_state(states, queue, rest, low, horizon)
 }
 
 // Adds an unseen state for each safe interval of a cell that ends at that time or later.
@@ -45,19 +90,29 @@ fn add_states(
     ensures queue { OnOk result (queue.new ≡ record queue.old { keys = keys_of states.new.items }) }
     ensures bound { queue.new.bound ≡ queue.old.bound }
 {
-    let mut from = since;
-    let mut begun = begun_by(calendar, 0, from);
-    while let Some(interval) = gap_after(calendar, begun, from, horizon) {
-        let spot = Spot {
-            cell,
-            interval,
-            left,
-        };
-        add_state(states, queue, spot)?;
-        from = interval.to + 1;
-        begun = begun_by(calendar, begun, from);
+    if since > horizon {
+        return Ok(());
     }
-    Ok(())
+    let records = calendar.records();
+    let begun = begun_by(calendar, 0, since);
+    // The first interval may begin before `since`: just behind the last record that has begun.
+    let mut low = 0;
+    if begun > 0 {
+        let last = records[begun - 1].to;
+        if last >= horizon {
+            return Ok(());
+        }
+        low = last + 1;
+    }
+    let rest = Spot {
+        cell,
+        interval: Interval {
+            from: low,
+            to: horizon,
+        },
+        left,
+    };
+    add_rest(states, queue, records, begun, rest)
 }
 
 // Loads a cell that isn't touched and adds its states. Gives the place of the first one.
