@@ -1,7 +1,7 @@
 -- Of all moves between two safe intervals the earliest decides: where it is barred, so is each later one.
 use Rattle.std.proofs.Common.{arith, sym, ◌∙◌, refl, inl, inr}
 use Rattle.std.proofs.lemmas.Bool.{cases_lt, cases_Bool, false≢true, or_cases, and_parts, eqb-true}
-use Rattle.std.specs.Prelude.{Bool, ◌||◌, ◌==◌, ◌≡◌, ℕ, ◌+◌, ◌-◌, ◌≤◌, true, false, List, [], ◌∷◌, max}
+use Rattle.std.specs.Prelude.{Bool, ◌||◌, ◌==◌, ◌≡◌, ℕ, ◌+◌, ◌-◌, ◌<◌, ◌≤◌, true, false, List, [], ◌∷◌, max}
 use Rattle.std.specs.List.{list_any}
 use Rattle.fleet_base.specs.declared.request.Record.{Record}
 use Rattle.fleet_base.specs.declared.request.RouteId.{RouteId}
@@ -55,14 +55,9 @@ module _ (here there : List Record) (from to : Interval) (since arrival : ℕ) (
             false≢true (sym can.unbarred ∙ here')
       ]
 
-  -- a move before the end of the interval is no exchange
-  pub unbarred_before_end : arrival ≤ from.to → is_exchange here there (arrival - 1) ≡ false
-  unbarred_before_end early = elim (cases_Bool (is_exchange here there (arrival - 1))) [
-    | inr unbarred ↦ unbarred
-    | inl barred ↦
-        let clear : covers here (arrival - 1 + 1) ≡ false = free (arrival - 1 + 1) (omega arith, omega arith) in
-        absurd (false≢true (sym clear ∙ exchange_covers here there (arrival - 1) order barred))
-  ]
+  -- no move arrives earlier
+  pub earliest_least : (t : ℕ) → CanEnter here there from to since t → arrival ≤ t + 1
+  earliest_least t can = omega (arith, can.lands.0, can.not_before)
 
   pub too_late : (arrival ≤ from.to + 1 → arrival ≤ to.to → ⊥) → (t : ℕ) → ¬ (CanEnter here there from to since t)
   too_late late t can = late (omega (arith, can.lands.0, can.until, can.not_before)) (omega (arith, can.lands, can.not_before))
@@ -79,3 +74,13 @@ module _ (here there : List Record) (from to : Interval) (since arrival : ℕ) (
     };
     least = λ t can. omega (arith, can.lands.0, can.not_before);
   }
+
+-- a move before the end of the interval is no exchange
+pub unbarred_inside : (here there : List Record) (from : Interval) (arrival : ℕ) → InOrder here → ((t : ℕ) → IsIn t from → covers here t ≡ false)
+    → from.from < arrival → arrival ≤ from.to → is_exchange here there (arrival - 1) ≡ false
+unbarred_inside here there from arrival order free begun early = elim (cases_Bool (is_exchange here there (arrival - 1))) [
+  | inr unbarred ↦ unbarred
+  | inl barred ↦
+      let clear : covers here (arrival - 1 + 1) ≡ false = free (arrival - 1 + 1) (omega arith, omega arith) in
+      absurd (false≢true (sym clear ∙ exchange_covers here there (arrival - 1) order barred))
+]

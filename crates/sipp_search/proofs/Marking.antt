@@ -106,7 +106,7 @@ offered_queued (Queued s) e r h = go (nat_lt e s) h where
 offered_queued (Final s) e r h = inr h
 
 -- afterwards it has an arrival no later than the offered one, or was final before
-offered_has : (m : Mark) (e : ℕ) → (r : ℕ) × (((offered_mark m e ≡ Queued r) × (r ≤ e)) ⊎ (m ≡ Final r))
+pub offered_has : (m : Mark) (e : ℕ) → (r : ℕ) × (((offered_mark m e ≡ Queued r) × (r ≤ e)) ⊎ (m ≡ Final r))
 offered_has Unseen e = (e, inl (refl, omega arith))
 offered_has (Queued s) e = go (nat_lt e s) refl where
   go : (b : Bool) → nat_lt e s ≡ b → (r : ℕ) × ((((if b then Queued e else Queued s) ≡ Queued r) × (r ≤ e)) ⊎ (Queued s ≡ Final r))

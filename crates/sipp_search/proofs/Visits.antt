@@ -17,7 +17,7 @@ use Rattle.sipp_search.specs.declared.states.Spot.{Spot}
 use Rattle.sipp_search.specs.declared.states.State.{State}
 use Rattle.sipp_search.specs.declared.states.Mark.{Mark}
 use Rattle.sipp_search.specs.declared.states.Mark.TheVariants.{Final}
-use Rattle.sipp_search.specs.Marks.{spots_of, final, offered}
+use Rattle.sipp_search.specs.Marks.{spots_of, final, offered, offered_mark}
 use Rattle.sipp_search.specs.Entry.{CanEnter, IsEntry}
 use Rattle.static_distance.specs.Distance.{IsDistance}
 use Rattle.sipp_search.specs.Arena.{IsBlock, HasTimes}
@@ -25,7 +25,7 @@ use Rattle.sipp_search.specs.Progress.{IsBound, MayMove, AreSpots, IsArrived, Is
 use Rattle.sipp_search.specs.Visiting.{IsSource, HasEntered, HasLed}
 use Rattle.sipp_search.proofs.Lists.{stands_map}
 use Rattle.sipp_search.proofs.Moves.{wait_until, move_on}
-use Rattle.sipp_search.proofs.Marking.{marked, offered_improves, offered_well, offered_seen, improved_way}
+use Rattle.sipp_search.proofs.Marking.{marked, offered_has, offered_improves, offered_well, offered_seen, improved_way}
 use Rattle.sipp_search.proofs.Blocks.{block_holds, rising_from}
 
 abbrev pub IsVisited : Terrain → Request → ℕ → Assignment → List State → ℕ → ℕ → List Record → List Record → Spot → ℕ → Spot → Type 0
@@ -37,10 +37,10 @@ module _ (g : Terrain) (q : Request) (horizon : ℕ) (a : Assignment) (cursor x 
       → IsVisited g q horizon a states cursor x here there from r to
   visited_none to way never = (way, (λ t can in_time. absurd (never t can)))
 
-  -- from each arrival the goal is too far
-  pub visited_late : (to : Spot) (e : ℕ) → IsUnderWay g q horizon a states cursor x → IsEntry here there from.interval to.interval r e → horizon < e + to.left
-      → IsVisited g q horizon a states cursor x here there from r to
-  visited_late to e way entry late = (way, (λ t can in_time. absurd (omega (arith, entry.least t can, entry.time_is))))
+  -- from the earliest arrival that there could be the goal is too far
+  pub visited_late : (to : Spot) (e : ℕ) → IsUnderWay g q horizon a states cursor x → ((t : ℕ) → CanEnter here there from.interval to.interval r t → e ≤ t + 1)
+      → horizon < e + to.left → IsVisited g q horizon a states cursor x here there from r to
+  visited_late to e way least late = (way, (λ t can in_time. absurd (omega (arith, least t can))))
 
   module _ (j : ℕ) (s : State) (at : slice_get states j ≡ Some s) (here_is : a from.cell.0 ≡ here) (there_is : a s.spot.cell.0 ≡ there)
       (source : IsSource g q horizon a from r s.spot.cell) (spots : AreSpots g q horizon a (spots_of states)) where
@@ -77,6 +77,27 @@ module _ (g : Terrain) (q : Request) (horizon : ℕ) (a : Assignment) (cursor x 
             early = (way.final_well j f s.spot stands).least (t + 1) (can_arrive t can);
           }),
         )
+
+    -- an arrival is known that is as early as the earliest that there could be
+    pub visited_known : (e : ℕ) → offered_mark s.mark e ≡ s.mark → ((t : ℕ) → CanEnter here there from.interval s.spot.interval r t → e ≤ t + 1)
+        → IsUnderWay g q horizon a states cursor x → IsVisited g q horizon a states cursor x here there from r s.spot
+    visited_known e kept least way =
+        let known = offered_has s.mark e in
+        elim known.1 [
+          | inr is ↦ visited_final known.0 is way
+          | inl is ↦ (
+            way,
+            (λ t can in_time. record {
+              place = j;
+              spot = s.spot;
+              arrival = known.0;
+              stands = inl (at ∙ ap (λ (m : Mark). Some (marked s.spot m)) (sym kept ∙ is.0));
+              cell_is = refl;
+              holds = can.lands;
+              early = omega (arith, is.1, least t can);
+            }),
+          )
+        ]
 
   module _ (j e : ℕ) (s : State) (at : slice_get states j ≡ Some s) (here_is : a from.cell.0 ≡ here) (there_is : a s.spot.cell.0 ≡ there)
       (source : IsSource g q horizon a from r s.spot.cell) (spots : AreSpots g q horizon a (spots_of states)) (entry : IsEntry here there from.interval s.spot.interval r e) where

@@ -18,7 +18,3 @@ pub record IsEntry (here there : List Record) (from to : Interval) (since arriva
   pub time_is : arrival ≡ before + 1
   pub enters : CanEnter here there from to since before
   pub least : (t : ℕ) → CanEnter here there from to since t → before ≤ t
-
-abbrev pub AnswersEntry : List Record → List Record → Interval → Interval → ℕ → Option ℕ → Type 0
-AnswersEntry here there from to since (Some arrival) = IsEntry here there from to since arrival
-AnswersEntry here there from to since None = (t : ℕ) → ¬ (CanEnter here there from to since t)

@@ -1,10 +1,10 @@
-ghost use Rattle.std.specs.Prelude.{◌≡◌, ◌≢◌, ℕ, suc, ◌+◌, ◌<◌, ◌≤◌, false, List, Option, Some, None, IsSome, OnOk, OnErr, length, slice_get, slice_set};
+ghost use Rattle.std.specs.Prelude.{◌≡◌, ℕ, ◌+◌, ◌-◌, ◌<◌, ◌≤◌, false, List, Some, IsSome, IfSome, IfNone, OnOk, length, slice_get, slice_set, max};
 ghost use Rattle.fleet_base.specs.Terrain.{Terrain, IsBeside};
 ghost use Rattle.fleet_base.specs.declared.grid.Cell.{Cell as ACell};
 ghost use Rattle.fleet_base.specs.Canonical.{rank_of};
 ghost use Rattle.sipp_search.specs.Running.{IsReady, IsSound, Serves, IsTaken, KeepsKnown, KeepsSpots, LoadsBeside, LoadsAround};
 ghost use Rattle.fleet_base.specs.declared.request.Request.{Request};
-ghost use Rattle.calendars.specs.Records.{covers};
+ghost use Rattle.calendars.specs.Records.{covers, is_exchange};
 ghost use Rattle.calendars.specs.Assignments.{Assignment, Agrees};
 ghost use Rattle.safe_intervals.specs.Safe.{IsIn};
 ghost use Rattle.sipp_search.specs.declared.states.Spot.{Spot};
@@ -12,7 +12,7 @@ ghost use Rattle.sipp_search.specs.declared.states.State.{State};
 ghost use Rattle.sipp_search.specs.Marks.{spots_of, keys_of, offered, offered_mark};
 ghost use Rattle.std.specs.Bool.{OnTrue, OnFalse};
 ghost use Rattle.sipp_search.specs.declared.states.Mark.TheVariants.{Queued};
-ghost use Rattle.sipp_search.specs.Entry.{AnswersEntry};
+ghost use Rattle.sipp_search.specs.Entry.{CanEnter};
 ghost use Rattle.sipp_search.specs.Arena.{IsBlock, HasTimes};
 ghost use Rattle.static_distance.specs.Distance.{IsDistance};
 ghost use Rattle.fleet_base.specs.declared.request.Record.{Record};
@@ -29,34 +29,35 @@ use fleet_base::{Cell, Memory, Side};
 use safe_intervals::Interval;
 use static_distance::{Place, neighbour_at, place_of};
 
-// The least time at which an agent that is in the first interval since that time can move into the second.
-fn entry_time(
-    here: &Calendar,
-    there: &Calendar,
-    from: Interval,
-    to: Interval,
-    since: u32,
-) -> Option<u32>
-    requires begun { from.from ≤ since }
+// The least time at which an agent that is in the first interval since that time could be in the second, if no move were an
+// exchange.
+fn first_entry(from: Interval, to: Interval, since: u32) -> Option<u32>
     requires until { since ≤ from.to }
     requires times { from.to ≤ 8000 }
-    requires free { (t : ℕ) → IsIn t from → covers here.now t ≡ false }
-    ensures { AnswersEntry here.now there.now from to since result }
+    ensures some { IfSome result (λ e. (e ≡ max to.from (since + 1)) × (e ≤ from.to + 1) × (e ≤ to.to)) }
+    ensures none { IfNone result ((here there : List Record) (t : ℕ) → ¬ (CanEnter here there from to since t)) }
 {
     let entry = to.from.max(since + 1);
     if entry > to.to.min(from.to + 1) {
         return None;
     }
+    Some(entry)
+}
+
+// Whether the move out of that interval that arrives at that time is an exchange.
+fn is_barred(here: &Calendar, there: &Calendar, from: Interval, entry: u32) -> bool
+    requires begun { from.from < entry }
+    requires until { entry ≤ from.to + 1 }
+    requires times { from.to ≤ 8000 }
+    requires free { (t : ℕ) → IsIn t from → covers here.now t ≡ false }
+    ensures { result ≡ is_exchange here.now there.now (entry - 1) }
+{
     let _in_order = here.records();
     // Who takes part in an exchange leaves at the end of the interval.
     if entry <= from.to {
-        return Some(entry);
+        return false;
     }
-    // Where the earliest move is an exchange, no later one is free.
-    if crossing(here, there, entry - 1) {
-        return None;
-    }
-    Some(entry)
+    crossing(here, there, entry - 1)
 }
 
 // Whether an offered arrival is earlier than the one that the mark has.
@@ -124,18 +125,23 @@ fn visit(
         → AreSpots g q horizon a (spots_of states.old.items) → IsUnderWay g q horizon a states.old.items queue.old.floor x
         → IsUnderWay g q horizon a states.new.items queue.old.floor x × HasEntered here.now there.now horizon states.new.items from arrival s.spot) }
 {
+    let _in_order = here.records();
     let state = states[j];
-    if let Mark::Final(_) = state.mark {
-        return Ok(());
-    }
     let to = state.spot;
-    let Some(entry) = entry_time(here, there, from.interval, to.interval, arrival) else {
+    let Some(entry) = first_entry(from.interval, to.interval, arrival) else {
         return Ok(());
     };
+    if !is_better(state.mark, entry) {
+        return Ok(());
+    }
     let Some(room) = horizon.checked_sub(entry) else {
         return Ok(());
     };
     if to.left > room {
+        return Ok(());
+    }
+    // Where the earliest move is an exchange, no later one is free.
+    if is_barred(here, there, from.interval, entry) {
         return Ok(());
     }
     offer(states, queue, j, entry, entry + to.left)?;
