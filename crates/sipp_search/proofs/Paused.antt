@@ -4,7 +4,7 @@ use Rattle.std.proofs.lemmas.List.{length-set}
 use Rattle.std.proofs.lemmas.Bool.{cases_lt, false≢true}
 use Rattle.std.specs.Bool.{OnTrue}
 use Rattle.std.proofs.lemmas.Option.{slice_get_within, same_Some}
-use Rattle.std.specs.Prelude.{Bool, true, not, ◌≡◌, ℕ, suc, ◌+◌, ◌<◌, ◌≤◌, ◌⊎◌, false, List, Option, Some, None, IsSome, length, slice_get}
+use Rattle.std.specs.Prelude.{Bool, true, not, ◌≡◌, ℕ, ◌+◌, ◌*◌, ◌<◌, ◌≤◌, ◌⊎◌, false, List, Option, Some, None, IsSome, length, slice_get}
 use Rattle.fleet_base.specs.declared.grid.Cell.{Cell}
 use Rattle.fleet_base.specs.declared.grid.Side.{Side}
 use Rattle.fleet_base.specs.declared.request.Record.{Record}
@@ -292,26 +292,58 @@ ties_kept g q known known' ties kept are = record {
   aimed = are.aimed;
   start_is = are.start_is;
   missed = λ a c u agrees at. are.missed a c u (agrees_before a known known' kept agrees) at;
+  entered = λ a c u agrees at. are.entered a c u (agrees_before a known known' kept agrees) at;
+  loaded = λ c u at. some_kept known known' c.0 kept (are.loaded c u at);
 }
 
-pub ties_missed : (g : Terrain) (q : Request) (known : ℕ → Option (List Record)) (ties : Ties) (c : Cell) (u : ℕ) (now : List ℕ) → AreTies g q known ties → c.0 < length g.cells
-    → now ≡ set ties.missed c.0 (u + 1) → ((a : Assignment) → Agrees a known → IsReached g q a c u → ⊥) → AreTies g q known (record ties { missed = now })
-ties_missed g q known ties c u now are within is never = record {
-  fit = record { from_start = are.fit.from_start; missed = ap length is ∙ (length-set ties.missed c.0 (u + 1) ∙ are.fit.missed) };
+-- a number that is kept of a cell, where what it tells holds
+pub ties_told : (g : Terrain) (q : Request) (known : ℕ → Option (List Record)) (ties : Ties) (c : Cell) (n : ℕ) (now : List ℕ) → AreTies g q known ties → c.0 < length g.cells
+    → now ≡ set ties.asked c.0 n → ((a : Assignment) (u : ℕ) → Agrees a known → n ≡ 2 * u + 1 → IsReached g q a c u → ⊥)
+    → ((a : Assignment) (u : ℕ) → Agrees a known → n ≡ 2 * u + 2 → IsEarliest g (traffic_by a) q c u u) → ((u : ℕ) → n ≡ 2 * u + 2 → IsSome (known c.0))
+    → AreTies g q known (record ties { asked = now })
+ties_told g q known ties c n now are within is never earliest some = record {
+  fit = record { from_start = are.fit.from_start; asked = ap length is ∙ (length-set ties.asked c.0 n ∙ are.fit.asked) };
   place_is = are.place_is;
   near = are.near;
   aimed = are.aimed;
   start_is = are.start_is;
   missed = λ a d v agrees at.
-      (let at' : slice_get (set ties.missed c.0 (u + 1)) d.0 ≡ Some (suc v) = rw is at at in
-      elim (set_cases ties.missed c.0 d.0 (u + 1) (suc v) (omega (arith, are.fit.missed)) at') [
-        | inr other ↦ are.missed a d v agrees other.1
-        | inl same ↦ λ reached.
-            (let cell : d ≡ c = same_cells d c same.0 in
-            let time : v ≡ u = omega (arith, same.1) in
-            never a agrees (subst (λ (n : ℕ). IsReached g q a c n) time (subst (λ (z : Cell). IsReached g q a z v) cell reached)))
-      ]);
+      elim (cases d (2 * v + 1) at) [
+        | inr other ↦ are.missed a d v agrees other
+        | inl same ↦ λ reached. never a v agrees same.1 (subst (λ (z : Cell). IsReached g q a z v) same.0 reached)
+      ];
+  entered = λ a d v agrees at.
+      elim (cases d (2 * v + 2) at) [
+        | inr other ↦ are.entered a d v agrees other
+        | inl same ↦ subst (λ (z : Cell). IsEarliest g (traffic_by a) q z v v) (sym same.0) (earliest a v agrees same.1)
+      ];
+  loaded = λ d v at.
+      elim (cases d (2 * v + 2) at) [
+        | inr other ↦ are.loaded d v other
+        | inl same ↦ subst (λ (z : Cell). IsSome (known z.0)) (sym same.0) (some v same.1)
+      ];
 }
+  where
+    cases : (d : Cell) (m : ℕ) → slice_get now d.0 ≡ Some m → ((d ≡ c) × (n ≡ m)) ⊎ (slice_get ties.asked d.0 ≡ Some m)
+    cases d m at =
+        let at' : slice_get (set ties.asked c.0 n) d.0 ≡ Some m = rw is at at in
+        elim (set_cases ties.asked c.0 d.0 n m (omega (arith, within, are.fit.asked)) at') [
+          | inl same ↦ inl (same_cells d c same.0, same.1)
+          | inr other ↦ inr other.1
+        ]
+
+pub ties_missed : (g : Terrain) (q : Request) (known : ℕ → Option (List Record)) (ties : Ties) (c : Cell) (u : ℕ) (now : List ℕ) → AreTies g q known ties → c.0 < length g.cells
+    → now ≡ set ties.asked c.0 (2 * u + 1) → ((a : Assignment) → Agrees a known → IsReached g q a c u → ⊥) → AreTies g q known (record ties { asked = now })
+ties_missed g q known ties c u now are within is never =
+    ties_told g q known ties c (2 * u + 1) now are within is
+    (λ a v agrees e reached. (let time : v ≡ u = omega (arith, e) in never a agrees (subst (λ (n : ℕ). IsReached g q a c n) time reached))) (λ a v agrees e. absurd (omega (arith, e)))
+    (λ v e. absurd (omega (arith, e)))
+
+pub ties_entered : (g : Terrain) (q : Request) (known : ℕ → Option (List Record)) (ties : Ties) (c : Cell) (u : ℕ) (now : List ℕ) → AreTies g q known ties → c.0 < length g.cells
+    → now ≡ set ties.asked c.0 (2 * u + 2) → ((a : Assignment) → Agrees a known → IsEarliest g (traffic_by a) q c u u) → IsSome (known c.0) → AreTies g q known (record ties { asked = now })
+ties_entered g q known ties c u now are within is earliest some =
+    ties_told g q known ties c (2 * u + 2) now are within is (λ a v agrees e reached. absurd (omega (arith, e)))
+    (λ a v agrees e. (let time : u ≡ v = omega (arith, e) in subst (λ (n : ℕ). IsEarliest g (traffic_by a) q c n n) time (earliest a agrees))) (λ v e. some)
 
 -- a neighbour that is reached, and from which the move is free
 pub side_found : (g : Terrain) (q : Request) (a : Assignment) (c n : Cell) (t u s : ℕ) (side : Side) → t ≡ u + 1 → IsBeside g side c n → IsEarliest g (traffic_by a) q n u s

@@ -1,5 +1,5 @@
 -- What reading back tells while some states of the last key aren't settled.
-use Rattle.std.specs.Prelude.{◌≡◌, ℕ, suc, ◌+◌, ◌<◌, ◌≤◌, List, Option, Some, IsSome, length, slice_get, ⊤}
+use Rattle.std.specs.Prelude.{◌≡◌, ℕ, ◌+◌, ◌*◌, ◌<◌, ◌≤◌, List, Option, Some, IsSome, length, slice_get, ⊤}
 use Rattle.fleet_base.specs.declared.grid.Cell.{Cell}
 use Rattle.fleet_base.specs.declared.grid.Side.{Side}
 use Rattle.fleet_base.specs.declared.request.Record.{Record}
@@ -36,16 +36,18 @@ pub record IsPaused (g : Terrain) (q : Request) (horizon : ℕ) (known : ℕ →
 -- what is kept of earlier questions has room for grids of that many cells
 pub record HaveRoom (cells : ℕ) (ties : Ties) : Type 0 where
   pub from_start : room ties.from_start ≡ cells
-  pub missed : length ties.missed ≡ cells
+  pub asked : length ties.asked ≡ cells
 
--- moves are counted from the start, whose place is known, and no cell is reached at the time at which it was missed
+-- moves are counted from the start, whose place is known, and what was told of a cell at a time holds
 pub record AreTies (g : Terrain) (q : Request) (known : ℕ → Option (List Record)) (ties : Ties) : Type 0 where
   pub fit : HaveRoom (length g.cells) ties
   pub place_is : IsPlaceOf g q.start ties.start
   pub near : (ties.start.column < 2048) × (ties.start.row < 2048)
   pub aimed : IsAimed g ties.from_start
   pub start_is : ties.from_start.goal ≡ q.start
-  pub missed : (a : Assignment) (c : Cell) (u : ℕ) → Agrees a known → slice_get ties.missed c.0 ≡ Some (suc u) → ¬ (Reached g (traffic_by a) q.start q.depart c u)
+  pub missed : (a : Assignment) (c : Cell) (u : ℕ) → Agrees a known → slice_get ties.asked c.0 ≡ Some (2 * u + 1) → ¬ (Reached g (traffic_by a) q.start q.depart c u)
+  pub entered : (a : Assignment) (c : Cell) (u : ℕ) → Agrees a known → slice_get ties.asked c.0 ≡ Some (2 * u + 2) → IsEarliest g (traffic_by a) q c u u
+  pub loaded : (c : Cell) (u : ℕ) → slice_get ties.asked c.0 ≡ Some (2 * u + 2) → IsSome (known c.0)
 
 -- whether c is reached by u in the safe interval that holds it, and the least time of that
 abbrev pub TellsArrival : Terrain → Request → Assignment → Cell → ℕ → Told → Type 0

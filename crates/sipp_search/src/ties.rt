@@ -7,6 +7,7 @@ ghost use Rattle.calendars.specs.Records.{covers};
 ghost use Rattle.calendars.specs.Assignments.{Assignment, Agrees, traffic_by};
 ghost use Rattle.sipp_search.specs.Marks.{final_count, final, queued, spots_of};
 ghost use Rattle.sipp_search.specs.Arena.{IsBlock, HasTimes};
+ghost use Rattle.static_distance.specs.Levels.{IsPlaceOf};
 ghost use Rattle.sipp_search.specs.Running.{IsReady, Serves, KeepsKnown};
 ghost use Rattle.sipp_search.specs.Ties.{IsPaused, HaveRoom, AreTies, TellsArrival, TellsSide, TellsStep, IsUnseenAt, LoadedWhereSince, EarlierThan, IsFirstArrival};
 
@@ -19,7 +20,7 @@ use crate::touch::block_of;
 use calendars::{CalendarView, crossing};
 use fleet_base::{Cell, Memory, Side};
 use stamped_list::StampedList;
-use static_distance::{Distances, Place, moves_between, place_of};
+use static_distance::{Distances, Place, moves_between, neighbour_at, place_of};
 use std::alloc::Global;
 
 // So many moves back it is asked whether a state is reached, before the rest of its key is settled instead.
@@ -29,13 +30,14 @@ const DEPTH: u32 = 1000;
 // that costs about as much.
 const EASY: u32 = 1000;
 
-// What reading back keeps of earlier questions: where the start is and the moves from it, by the cell's number 1 plus the
-// time at which the cell was found not to be reached, and how many states were looked into without counting moves.
+// What reading back keeps of earlier questions: where the start is and the moves from it, by the cell's number what was told
+// of the cell (twice the time and 1 where it isn't reached by then, and 2 where it is entered then), and how many states were
+// looked into without counting moves.
 #[derive(Drop)]
 pub struct Ties {
     pub start: Place,
     pub from_start: Distances,
-    pub missed: StampedList,
+    pub asked: StampedList,
     pub looked: u32,
 }
 
@@ -54,7 +56,7 @@ pub fn new_ties(alloc: Global, cells: usize) -> Result<Ties, Memory>
     Ok(Ties {
         start: Place { column: 0, row: 0 },
         from_start: Distances::new(alloc, cells)?,
-        missed: StampedList::new(alloc, cells)?,
+        asked: StampedList::new(alloc, cells)?,
         looked: 0,
     })
 }
@@ -67,7 +69,7 @@ fn forget(task: &Task, ties: &mut Ties) -> Result<(), Memory>
     ensures fit { HaveRoom (length task.now.grid.now.cells) ties.new }
     ensures ties { OnOk result ((known : ℕ → Option (List Record)) → AreTies task.now.grid.now task.now.request known ties.new) }
 {
-    ties.missed.clear();
+    ties.asked.clear();
     ties.looked = 0;
     ties.start = place_of(task.grid, task.request.start);
     ties.from_start
@@ -226,8 +228,12 @@ fn ask<V: CalendarView>(
     ensures early { IfOk result (EarlierThan (time + 1)) }
     ensures told { IfOk result (λ told. (a : Assignment) → Agrees a (V.known view.new) → TellsArrival task.now.grid.now task.now.request a cell time told) }
 {
-    if ties.missed.get(cell.0 as usize) == time + 1 {
+    let told = ties.asked.get(cell.0 as usize);
+    if told == 2 * time + 1 {
         return Ok(Told::Never);
+    }
+    if told == 2 * time + 2 {
+        return Ok(Told::Since(Hop { cell, time }));
     }
     if is_too_far(task, ties, cell, time)? {
         return Ok(Told::Never);
@@ -237,9 +243,12 @@ fn ask<V: CalendarView>(
     }
     let before = step_back(task, view, arena, ties, cell, time, depth - 1)?;
     match before {
-        Told::Since(_) => Ok(Told::Since(Hop { cell, time })),
+        Told::Since(_) => {
+            ties.asked.set(cell.0 as usize, 2 * time + 2);
+            Ok(Told::Since(Hop { cell, time }))
+        }
         Told::Never => {
-            ties.missed.set(cell.0 as usize, time + 1);
+            ties.asked.set(cell.0 as usize, 2 * time + 1);
             Ok(Told::Never)
         }
         Told::Unclear => Ok(Told::Unclear),
@@ -254,6 +263,7 @@ fn side_back<V: CalendarView>(
     arena: &mut Arena,
     ties: &mut Ties,
     at: Cell,
+    place: Place,
     entered: u32,
     side: Side,
     depth: u32,
@@ -262,6 +272,7 @@ fn side_back<V: CalendarView>(
     requires paused { IsPaused task.now.grid.now task.now.request task.now.horizon (V.known view.old) (V.size view.old) arena.old }
     requires ties { AreTies task.now.grid.now task.now.request (V.known view.old) ties.old }
     requires known { IsSome (V.known view.old at.0) }
+    requires place { IsPlaceOf task.now.grid.now at place }
     requires cell { at.0 < V.size view.old }
     requires time { entered ≤ task.now.horizon }
     requires free { (a : Assignment) → Agrees a (V.known view.old) → covers (a at.0) entered ≡ false }
@@ -281,7 +292,7 @@ fn side_back<V: CalendarView>(
     if entered == 0 {
         return Ok(Told::Never);
     }
-    let Some(cell) = task.grid.neighbour(at, side) else {
+    let Some(cell) = neighbour_at(task.grid, at, place, side) else {
         return Ok(Told::Never);
     };
     if !task.grid.is_open(cell) {
@@ -330,9 +341,10 @@ fn step_back<V: CalendarView>(
     ensures early { IfOk result (EarlierThan entered) }
     ensures told { IfOk result (λ told. (a : Assignment) → Agrees a (V.known view.new) → TellsStep task.now.grid.now task.now.request a at entered told) }
 {
+    let place = place_of(task.grid, at);
     for rank in 0..4 {
         let side = side_at(rank);
-        let told = side_back(task, view, arena, ties, at, entered, side, depth)?;
+        let told = side_back(task, view, arena, ties, at, place, entered, side, depth)?;
         match told {
             Told::Since(hop) => return Ok(Told::Since(hop)),
             Told::Never => {}

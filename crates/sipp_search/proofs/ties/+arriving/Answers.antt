@@ -15,7 +15,7 @@ use Rattle.sipp_search.specs.Back.{NoneFrom}
 use Rattle.sipp_search.specs.Ties.{IsUnseenAt}
 use Rattle.sipp_search.proofs.Moves.{IsReached, reached_open, beside_differs}
 use Rattle.sipp_search.proofs.Moving.{kept_twice, agrees_before, same_side, rank_low}
-use Rattle.sipp_search.proofs.Paused.{paused_there, paused_known, paused_below, paused_beside, paused_entered, paused_free, unseen_loaded, some_kept, ready_kept, ties_kept, ties_missed, side_found}
+use Rattle.sipp_search.proofs.Paused.{paused_there, paused_known, paused_below, paused_beside, paused_entered, paused_free, unseen_loaded, some_kept, ready_kept, ties_kept, ties_missed, ties_entered, side_found}
 use Rattle.sipp_search.proofs.ties.+arriving.Goals as goal
 
 pub arrival_at-returns-in_default-place_at-clause-told : goal.arrival_at-returns-in_default-place_at-clause-told
@@ -121,6 +121,22 @@ ask-step_back-requires g t c κs within = (
   ),
 )
 
+pub ask-returns-then-told-time-2-clause-loaded : goal.ask-returns-then-told-time-2-clause-loaded
+ask-returns-then-told-time-2-clause-loaded g t c =
+    c.requires.ties.loaded c.args.cell c.args.time (rw c.if-told-time-2.true at c.get-told.ensures)
+
+pub ask-returns-then-told-time-2-clause-told : goal.ask-returns-then-told-time-2-clause-told
+ask-returns-then-told-time-2-clause-told g t c =
+    λ a agrees. (refl, c.requires.ties.entered a c.args.cell c.args.time agrees (rw c.if-told-time-2.true at c.get-told.ensures))
+
+pub ask-returns-in-Since-clause-ties : goal.ask-returns-in-Since-clause-ties
+ask-returns-in-Since-clause-ties g t c =
+    ties_entered c.args.task.now.grid.now c.args.task.now.request (g.V.CalendarView.known c.step_back.new.view) c.step_back.new.ties c.args.cell c.args.time c.set.new.self c.in_ok-before.ensures.ties (omega (arith, c.requires.cell, c.requires.ready.size_is)) c.set.ensures
+    (λ a agrees.
+    (let back = rw c.in-Since.is at (c.in_ok-before.ensures.told a agrees) in
+    paused_entered c.args.task.now.grid.now c.args.task.now.request c.args.task.now.horizon (g.V.CalendarView.known c.args.view.now) (g.V.CalendarView.size c.args.view.now) c.args.arena.now c.requires.ready.bound c.requires.paused a (agrees_before a (g.V.CalendarView.known c.args.view.now) (g.V.CalendarView.known c.step_back.new.view) c.in_ok-before.ensures.kept agrees) c.args.place c.args.time c.args.cell c.in-Since.field-0.cell c.in-Since.field-0.time c.requires.unseen back))
+    (some_kept (g.V.CalendarView.known c.args.view.now) (g.V.CalendarView.known c.step_back.new.view) c.args.cell.0 c.in_ok-before.ensures.kept (unseen_loaded c.args.task.now.grid.now c.args.task.now.request c.args.task.now.horizon (g.V.CalendarView.known c.args.view.now) (g.V.CalendarView.size c.args.view.now) c.args.arena.now c.args.place c.args.time c.args.cell c.requires.paused.sound c.requires.unseen))
+
 pub ask-returns-in-Since-clause-loaded : goal.ask-returns-in-Since-clause-loaded
 ask-returns-in-Since-clause-loaded g t c =
     some_kept (g.V.CalendarView.known c.args.view.now) (g.V.CalendarView.known c.step_back.new.view) c.args.cell.0 c.in_ok-before.ensures.kept (unseen_loaded c.args.task.now.grid.now c.args.task.now.request c.args.task.now.horizon (g.V.CalendarView.known c.args.view.now) (g.V.CalendarView.size c.args.view.now) c.args.arena.now c.args.place c.args.time c.args.cell c.requires.paused.sound c.requires.unseen)
@@ -133,7 +149,7 @@ ask-returns-in-Since-clause-told g t c =
 
 pub ask-returns-in-Never-clause-ties : goal.ask-returns-in-Never-clause-ties
 ask-returns-in-Never-clause-ties g t c =
-    ties_missed c.args.task.now.grid.now c.args.task.now.request (g.V.CalendarView.known c.step_back.new.view) c.step_back.new.ties c.args.cell c.args.time c.set.new.self c.in_ok-before.ensures.ties (omega (arith, c.requires.cell, c.requires.ready.size_is)) c.set.ensures
+    ties_missed c.args.task.now.grid.now c.args.task.now.request (g.V.CalendarView.known c.step_back.new.view) c.step_back.new.ties c.args.cell c.args.time c.set-in-Never.new.self c.in_ok-before.ensures.ties (omega (arith, c.requires.cell, c.requires.ready.size_is)) c.set-in-Never.ensures
     (λ a agrees. paused_beside c.args.task.now.grid.now c.args.task.now.request c.args.task.now.horizon (g.V.CalendarView.known c.args.view.now) (g.V.CalendarView.size c.args.view.now) c.args.arena.now c.requires.ready.bound c.requires.paused a (agrees_before a (g.V.CalendarView.known c.args.view.now) (g.V.CalendarView.known c.step_back.new.view) c.in_ok-before.ensures.kept agrees) c.args.place c.args.time c.args.cell c.requires.unseen (rw c.in-Never.is at (c.in_ok-before.ensures.told a agrees)))
 
 pub ask-returns-in-Never-clause-told : goal.ask-returns-in-Never-clause-told
@@ -223,6 +239,10 @@ step_back-loop-rank-preserved g t c =
 pub step_back-returns-clause-told : goal.step_back-returns-clause-told
 step_back-returns-clause-told g t c =
     λ a agrees side n u beside time. c.loop-rank.invariant.none a agrees side (omega (arith, rank_low side, c.loop-rank-test.false)) n u beside time
+
+pub arrival_at-returns-in_default-clause-ties : goal.arrival_at-returns-in_default-clause-ties
+arrival_at-returns-in_default-clause-ties g t c =
+    ties_kept c.args.task.now.grid.now c.args.task.now.request (g.V.CalendarView.known c.args.view.now) (g.V.CalendarView.known c.paused_block.new.view) c.args.ties.now c.in_ok-first.ensures.kept c.requires.ties
 
 pub arrival_at-returns-in_default-place_at-clause-ties : goal.arrival_at-returns-in_default-place_at-clause-ties
 arrival_at-returns-in_default-place_at-clause-ties g t c =
