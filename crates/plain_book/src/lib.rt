@@ -8,6 +8,7 @@
 mod book;
 mod finding;
 mod lent;
+mod pool;
 mod records;
 mod routes;
 #[cfg(test)]
