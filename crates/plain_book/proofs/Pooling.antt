@@ -1,27 +1,12 @@
 -- What a pool of calendars is after each change.
-use Rattle.std.proofs.Common.{◌≡◌, ◌≢◌, ℕ, ◌<◌, inl, inr, List, [], ◌∷◌, ◌++◌, length, replicate, refl, sym, ap, ◌∙◌, subst, arith, get_or, set, zero, suc}
-use Rattle.std.specs.Prelude.{Some, slice_get}
+use Rattle.std.proofs.Common.{◌≡◌, ℕ, ◌<◌, inl, inr, List, [], ◌∷◌, ◌++◌, length, replicate, refl, sym, ap, ◌∙◌, subst, arith, get_or, set, zero, suc}
 use Rattle.std.proofs.lemmas.Bool.{cases_eq, cases_lt}
-use Rattle.std.proofs.lemmas.Option.{slice_get-get_or}
-use Rattle.std.proofs.lemmas.List.{length-set, length-map, length_push, map-set, same_lists, get_or-map, get_or-set_same, get_or-set_other, get_or_push, get_or_past, set-get_or, get_or_default}
+use Rattle.std.proofs.lemmas.List.{length-set, length-map, map-set, same_lists, get_or-map, get_or-set_same, get_or-set_other, get_or_push, get_or_past, set-get_or}
 use Rattle.fleet_base.specs.declared.request.Record.{Record}
 use Rattle.plain_book.specs.Kept.{records_at}
 use Rattle.plain_book.specs.Pool.{calendars_in, place_of, IsPool}
 
 -- a pool where no cell had a record
-all_first : (n c : ℕ) → place_of (replicate n 0) c ≡ 0
-all_first zero c = refl
-all_first (suc n) zero = refl
-all_first (suc n) (suc c) = all_first n c
-
-pub pool_none : (n : ℕ) → IsPool (replicate n 0) ([] ∷ [])
-pool_none n = record {
-  within = λ k d h. (let first : get_or (replicate n 0) k d ≡ 0 = get_or_default (replicate n 0) k d 0 h ∙ all_first n k in omega arith);
-  some = omega arith;
-  empty = refl;
-  apart = λ c d own same. absurd (omega (arith, all_first n c));
-}
-
 all_empty : (n : ℕ) → calendars_in ([] ∷ []) (replicate n 0) ≡ replicate n []
 all_empty zero = refl
 all_empty (suc n) = ap (λ (rest : List (List Record)). [] ∷ rest) (all_empty n)
@@ -38,24 +23,11 @@ module _ (places : List ℕ) (pool : List (List Record)) (is : IsPool places poo
   ]
 
   -- the calendar of a cell is that of its place
-  pub read_at : (c : ℕ) → c < length places → records_at (calendars_in pool places) c ≡ records_at pool (place_of places c)
+  read_at : (c : ℕ) → c < length places → records_at (calendars_in pool places) c ≡ records_at pool (place_of places c)
   read_at c inside = get_or-map (records_at pool) places c 0 [] inside
 
-  -- so is what a look-up gives
-  pub seen_at : (c : ℕ) (records : List Record) → c < length places → records_at pool (place_of places c) ≡ records → slice_get (calendars_in pool places) c ≡ Some records
-  seen_at c records inside same =
-      slice_get-get_or (calendars_in pool places) c [] (omega (arith, length-map places (records_at pool))) ∙ ap (λ (rs : List Record). Some rs) (read_at c inside ∙ same)
-
   -- a calendar that one cell has changed
-  pub pool_changed : (n : ℕ) (new : List Record) → 0 < n → IsPool places (set pool n new)
-  pool_changed n new own = record {
-    within = λ k d h. omega (arith, is.within k d h, length-set pool n new);
-    some = omega (arith, is.some, length-set pool n new);
-    empty = get_or-set_other pool n 0 new [] (λ same. absurd (omega arith)) ∙ is.empty;
-    apart = is.apart;
-  }
-
-  pub calendars_changed : (c : ℕ) (new : List Record) → c < length places → 0 < place_of places c
+  calendars_changed : (c : ℕ) (new : List Record) → c < length places → 0 < place_of places c
       → calendars_in (set pool (place_of places c) new) places ≡ set (calendars_in pool places) c new
   calendars_changed c new inside own = same_lists (calendars_in (set pool (place_of places c) new) places) (set (calendars_in pool places) c new)
       (length-map places (records_at (set pool (place_of places c) new)) ∙ sym (length-set (calendars_in pool places) c new ∙ length-map places (records_at pool))) at
@@ -74,7 +46,7 @@ module _ (places : List ℕ) (pool : List (List Record)) (is : IsPool places poo
           ]
 
   -- an empty calendar put where one is
-  pub calendars_still : (c : ℕ) (new : List Record) → c < length places → place_of places c ≡ 0 → new ≡ [] → set (calendars_in pool places) c new ≡ calendars_in pool places
+  calendars_still : (c : ℕ) (new : List Record) → c < length places → place_of places c ≡ 0 → new ≡ [] → set (calendars_in pool places) c new ≡ calendars_in pool places
   calendars_still c new inside first empty =
       let here : records_at (calendars_in pool places) c ≡ new = read_at c inside ∙ (ap (records_at pool) first ∙ (is.empty ∙ sym empty)) in
       ap (set (calendars_in pool places) c) (sym here) ∙ set-get_or (calendars_in pool places) c []
@@ -105,35 +77,6 @@ calendars_more pool (n ∷ places) =
 
 module _ (places : List ℕ) (pool : List (List Record)) (is : IsPool places pool) (c : ℕ) (inside : c < length places) where
   -- and is that of a cell which had none of its own
-  pub pool_more : IsPool (set places c (length pool)) (pool ++ [] ∷ [])
-  pool_more = record {
-    within = λ k d h. elim (cases_eq k c) [
-      | inl same ↦ (let new : get_or (set places c (length pool)) k d ≡ length pool = subst (λ (i : ℕ). get_or (set places c (length pool)) i d ≡ length pool) (sym same) (get_or-set_same places c (length pool) d inside) in omega (arith, length_push pool []))
-      | inr other ↦ omega (arith, get_or-set_other places c k (length pool) d other, is.within k d (omega (arith, length-set places c (length pool))), length_push pool [])
-    ];
-    some = omega (arith, length_push pool []);
-    empty = records_more pool 0 ∙ is.empty;
-    apart = λ k l own same. elim (cases_eq k c) [
-      | inl k_is ↦ elim (cases_eq l c) [
-        | inl l_is ↦ k_is ∙ sym l_is
-        | inr l_other ↦ absurd (not_new l l_other (sym same ∙ new_at k k_is))
-      ]
-      | inr k_other ↦ elim (cases_eq l c) [
-        | inl l_is ↦ absurd (not_new k k_other (same ∙ new_at l l_is))
-        | inr l_other ↦ is.apart k l (subst (λ (n : ℕ). 0 < n) (old_at k k_other) own) (sym (old_at k k_other) ∙ (same ∙ old_at l l_other))
-      ]
-    ];
-  }
-    where
-      new_at : (k : ℕ) → k ≡ c → place_of (set places c (length pool)) k ≡ length pool
-      new_at k same = subst (λ (i : ℕ). place_of (set places c (length pool)) i ≡ length pool) (sym same) (get_or-set_same places c (length pool) 0 inside)
-
-      old_at : (k : ℕ) → k ≢ c → place_of (set places c (length pool)) k ≡ place_of places k
-      old_at k other = get_or-set_other places c k (length pool) 0 other
-
-      not_new : (k : ℕ) → k ≢ c → place_of (set places c (length pool)) k ≡ length pool → ⊥
-      not_new k other same = omega (arith, old_at k other, in_pool places pool is k)
-
   pub calendars_same : (next : ℕ) (fresh : List Record) (more : List (List Record)) → next ≡ length pool → fresh ≡ [] → more ≡ pool ++ fresh ∷ [] → place_of places c ≡ 0
       → calendars_in more (set places c next) ≡ calendars_in pool places
   calendars_same next fresh more next_is fresh_is more_is first =
