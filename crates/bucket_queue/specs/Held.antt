@@ -38,8 +38,11 @@ pub record IsFirst (b : Buckets) (from end : ℕ) (spot : Spot) : Type 0 where
   pub last : IsLast b spot.key spot.place
   pub first : (k : ℕ) → from ≤ k → k < spot.key → HasNone b.keys.items k
 
--- the buckets and the keys of a queue: no key is below the floor, and the floor is a bucket
-pub record IsQueue (b : Buckets) (floor : ℕ) : Type 0 where
+-- the buckets and the keys of a queue: no key is below the floor, or at the end or above it; the floor is a bucket, and
+-- there are buckets up to the end
+pub record IsQueue (b : Buckets) (floor end : ℕ) : Type 0 where
   pub held : IsHeld b
   pub low : (id key : ℕ) → HasKey b.keys.items id key → floor ≤ key
+  pub high : (id key : ℕ) → HasKey b.keys.items id key → key < end
   pub within : floor < length b.by_key.items
+  pub used : end ≤ length b.by_key.items

@@ -20,12 +20,11 @@ impl Model for BucketQueue {
 
     ghost Value = { Queue };
 
-    ghost use Rattle.std.specs.Prelude.{◌≤◌};
     ghost use Rattle.bucket_queue.specs.Held.{IsQueue};
 
     ghost view = { λ q. record { keys = q.buckets.keys.items; floor = q.floor; bound = length q.buckets.by_key.items - 1 } };
 
-    ghost invariant = { λ q. IsQueue q.buckets q.floor × (q.end ≤ length q.buckets.by_key.items) };
+    ghost invariant = { λ q. IsQueue q.buckets q.floor q.end };
 }
 
 impl BucketQueue {
@@ -100,7 +99,7 @@ impl BucketQueue {
         ensures some { IfSome result (λ id. TakesLeast self.old self.new limit id) }
         ensures none { IfNone result (TakesNone self.old self.new limit) }
     {
-        let end = self.buckets.by_key.len().min(limit as usize + 1);
+        let end = self.end.min(limit as usize + 1);
         let spot = self.buckets.first_spot(self.floor, end)?;
         let id = self.buckets.take_out(spot);
         self.floor = spot.key;

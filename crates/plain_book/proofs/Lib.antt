@@ -1,4 +1,5 @@
 pub mod Members
+pub mod Pooling
 pub mod Placing
 pub mod Alike
 pub mod KeptTraffic

@@ -1,8 +1,8 @@
 -- One record more in a list of calendars, and one id less: step by step.
 use Rattle.std.proofs.Common.{◌≡◌, ◌≢◌, ℕ, ◌+◌, ◌<◌, ◌⊎◌, inl, inr, true, false, List, [], ◌∷◌, ◌++◌, length, refl, sym, ap, ◌∙◌, subst, arith, get_or, set, take, get_or-set_same, get_or-set_other}
 use Rattle.std.specs.Prelude.{All, ◌||◌, ◌==◌, ◌-◌, nat_le, Some, slice_get}
-use Rattle.std.proofs.lemmas.Option.{same_Some, slice_get-get_or, slice_get_within, get_or_from_slice_get}
-use Rattle.std.proofs.lemmas.List.{take_more, set-get_or, get_or-take, length-take-le}
+use Rattle.std.proofs.lemmas.Option.{slice_get_within, get_or_from_slice_get}
+use Rattle.std.proofs.lemmas.List.{take_more, get_or-take, length-take-le}
 use Rattle.std.proofs.lemmas.Bool.{cases_eq, and_parts, or_cases, leb-true, eqb-true}
 use Rattle.fleet_base.specs.declared.grid.Cell.{Cell}
 use Rattle.fleet_base.specs.declared.request.RouteId.{RouteId}
@@ -145,17 +145,12 @@ LacksId-push id old mid c cells below lacks = record {
   ];
 }
 
--- The steps of the loops, as they read their lists.
-pub any_default : {X : Type 0} (xs : List X) (i : ℕ) (d e : X) → i < length xs → get_or xs i d ≡ get_or xs i e
-any_default xs i d e below = sym (same_Some _ _ (sym (slice_get-get_or xs i e below) ∙ slice_get-get_or xs i d below))
-
-pub taken_step : (id : RouteId) (old mid : List (List Record)) (cells : List Cell) (i : ℕ) (d : Cell) (e new : List Record) → i < length cells
-    → (get_or cells i d).0 < length mid → new ≡ without_id id (get_or mid (get_or cells i d).0 e) → LacksId id (take i cells) old mid
-    → LacksId id (take (i + 1) cells) old (set mid (get_or cells i d).0 new)
-taken_step id old mid cells i d e new within below is lacks =
-    let c : Cell = get_or cells i d in
-    let same : without_id id (records_at mid c.0) ≡ new = ap (without_id id) (any_default mid c.0 [] e below) ∙ sym is in
-    subst (λ (rs : List Record). LacksId id (take (i + 1) cells) old (set mid (get_or cells i d).0 rs)) same
+-- The steps of the loops.
+pub taken_step : (id : RouteId) (old mid : List (List Record)) (cells : List Cell) (i : ℕ) (d : Cell) (new : List (List Record)) → i < length cells
+    → (get_or cells i d).0 < length mid → new ≡ set mid (get_or cells i d).0 (without_id id (records_at mid (get_or cells i d).0)) → LacksId id (take i cells) old mid
+    → LacksId id (take (i + 1) cells) old new
+taken_step id old mid cells i d new within below is lacks =
+    subst (λ (cs : List (List Record)). LacksId id (take (i + 1) cells) old cs) (sym is)
     (subst (λ (cs : List Cell). LacksId id cs old (set mid (get_or cells i d).0 (without_id id (records_at mid (get_or cells i d).0)))) (sym (take_more cells i d within))
     (LacksId-push id old mid (get_or cells i d) (take i cells) below lacks))
 
@@ -179,32 +174,22 @@ again_step id old mid cells i d within later same lacks = record {
         subst (λ (x : Cell). IsAmong x (take i cells)) (get_or-take i cells (i - 1) d (omega arith))
         (among_at (take i cells) (i - 1) d (omega (arith, length-take-le i cells (omega arith))))
 
-pub put_step : (old mid : List (List Record)) (stays : List Stay) (i : ℕ) (d : Stay) (e new : List Record) → i < length stays
-    → (get_or stays i d).cell.0 < length mid → new ≡ with_record (get_or stays i d).span (get_or mid (get_or stays i d).cell.0 e) → HasAll old mid (take i stays)
-    → HasAll old (set mid (get_or stays i d).cell.0 new) (take (i + 1) stays)
-put_step old mid stays i d e new within below is all =
-    let s : Stay = get_or stays i d in
-    let same : with_record s.span (records_at mid s.cell.0) ≡ new = ap (with_record s.span) (any_default mid s.cell.0 [] e below) ∙ sym is in
-    subst (λ (rs : List Record). HasAll old (set mid (get_or stays i d).cell.0 rs) (take (i + 1) stays)) same
+pub put_step : (old mid : List (List Record)) (stays : List Stay) (i : ℕ) (d : Stay) (new : List (List Record)) → i < length stays
+    → (get_or stays i d).cell.0 < length mid → new ≡ set mid (get_or stays i d).cell.0 (with_record (get_or stays i d).span (records_at mid (get_or stays i d).cell.0)) → HasAll old mid (take i stays)
+    → HasAll old new (take (i + 1) stays)
+put_step old mid stays i d new within below is all =
+    subst (λ (cs : List (List Record)). HasAll old cs (take (i + 1) stays)) (sym is)
     (subst (λ (xs : List Stay). HasAll old (set mid (get_or stays i d).cell.0 (with_record (get_or stays i d).span (records_at mid (get_or stays i d).cell.0))) xs) (sym (take_more stays i d within))
     (HasAll-push old mid (get_or stays i d) (take i stays) below all))
 
 -- where nothing was put in
-pub refused_step : (old mid : List (List Record)) (stays : List Stay) (i : ℕ) (d : Stay) (e new : List Record)
-    → new ≡ get_or mid (get_or stays i d).cell.0 e → HasAll old mid (take i stays) → HasSome old (set mid (get_or stays i d).cell.0 new) stays
-refused_step old mid stays i d e new is all =
-    let same : mid ≡ set mid (get_or stays i d).cell.0 new = sym (ap (set mid (get_or stays i d).cell.0) is ∙ set-get_or mid (get_or stays i d).cell.0 e) in
-    subst (λ (cs : List (List Record)). HasSome old cs stays) same (HasSome-more old mid (take i stays) stays (λ s h. take_part s i stays h) all.rest)
+pub refused_step : (old mid : List (List Record)) (stays : List Stay) (i : ℕ) (new : List (List Record)) → new ≡ mid → HasAll old mid (take i stays) → HasSome old new stays
+refused_step old mid stays i new is all =
+    subst (λ (cs : List (List Record)). HasSome old cs stays) (sym is) (HasSome-more old mid (take i stays) stays (λ s h. take_part s i stays h) all.rest)
 
 pub below_old : (cells seen : List Cell) (i : ℕ) (d : Cell) (n m : ℕ) → seen ≡ cells → m ≡ n → i < length seen → All (λ (c : Cell). c.0 < n) cells → (get_or seen i d).0 < m
 below_old cells seen i d n m same lengths within all =
     subst (λ (k : ℕ). (get_or seen i d).0 < k) (sym lengths) (subst (λ (cs : List Cell). All (λ (c : Cell). c.0 < n) cs) (sym same) all i d within)
-
-pub apart_step : (old mid : List (List Record)) (stays : List Stay) (i : ℕ) (d : Stay) (e : List Record) → i < length stays → length mid ≡ length old → FitIn old stays → HasAll old mid (take i stays)
-    → IsApart (get_or stays i d).span (get_or mid (get_or stays i d).cell.0 e)
-apart_step old mid stays i d e within lengths fit all =
-    let below : (get_or stays i d).cell.0 < length mid = subst (λ (n : ℕ). (get_or stays i d).cell.0 < n) (sym lengths) (fit.inside i d within) in
-    subst (λ (rs : List Record). IsApart (get_or stays i d).span rs) (any_default mid (get_or stays i d).cell.0 [] e below) (apart_still old mid stays i d within fit all)
 
 -- What the stays of a walk give.
 pub holds_from_true : (r : Record) (t : ℕ) → holds_time t r ≡ true → HoldsTime r t

@@ -7,3 +7,4 @@ pub mod Changes
 pub mod Found
 pub mod Entering
 pub mod Lent
+pub mod Pool

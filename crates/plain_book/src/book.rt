@@ -3,9 +3,8 @@ ghost use Rattle.fleet_base.specs.Planned.{NoneFree};
 ghost use Rattle.fleet_base.specs.History.{IsLive};
 
 use crate::finding::find_walk;
-use crate::records::empty_calendars;
+use crate::pool::CalendarPool;
 use crate::routes::{add_route, copy_of, end_route};
-use calendars::Calendar;
 use fleet_base::{Entry, Grid, Live, Memory, Request, RouteId, Walk};
 use sipp_search::Searcher;
 use std::alloc::Global;
@@ -22,7 +21,7 @@ pub struct PlainBook {
     alloc: Global,
     grid: Grid,
     horizon: u32,
-    calendars: Vec<Calendar>,
+    calendars: CalendarPool,
     searcher: Searcher,
     routes: BTreeMap<RouteId, Walk>,
     stamp: u32,
@@ -37,7 +36,7 @@ impl Model for PlainBook {
 
     ghost view = { λ b. record { grid = b.grid; horizon = b.horizon; routes = routes_of b.routes.entries; stamp = b.stamp; era = b.era } };
 
-    ghost invariant = { λ b. IsKept b.grid b.horizon b.stamp b.routes.entries b.calendars.items b.searcher };
+    ghost invariant = { λ b. IsKept b.grid b.horizon b.stamp b.routes.entries b.calendars b.searcher };
 }
 
 impl PlainBook {
@@ -66,7 +65,7 @@ impl PlainBook {
         requires { (1 ≤ horizon) × (horizon ≤ 8000) }
         ensures { IfOk result (λ b. b ≡ record { grid = grid; horizon = horizon; routes = []; stamp = stamp; era = era }) }
     {
-        let calendars = empty_calendars(alloc, grid.cells().len())?;
+        let calendars = CalendarPool::new(alloc, grid.cells().len())?;
         let searcher = Searcher::new(alloc, grid.cells().len(), horizon)?;
         Ok(PlainBook {
             alloc,

@@ -4,7 +4,7 @@ ghost use Rattle.plain_book.specs.Kept.{records_at};
 ghost use Rattle.plain_book.specs.Found.{FindsWalk};
 
 use crate::lent::LentView;
-use calendars::Calendar;
+use crate::pool::CalendarPool;
 use fleet_base::{Grid, Memory, Request, Walk};
 use sipp_search::{Searcher, Steps};
 use std::marker::Brand;
@@ -13,7 +13,7 @@ use std::sync::ledger::{Blank, Ledger};
 /// The canonical walk of a request among the records of the calendars; none exactly where no walk is free of them.
 pub fn find_walk(
     searcher: &mut Searcher,
-    calendars: &[Calendar],
+    calendars: &CalendarPool,
     grid: &Grid,
     request: Request,
 ) -> Result<Option<Walk>, Memory>
@@ -30,7 +30,7 @@ pub fn find_walk(
 // The search wants a counter of its steps, which nobody reads here.
 fn find_counting<L: Ledger>(
     searcher: &mut Searcher,
-    calendars: &[Calendar],
+    calendars: &CalendarPool,
     grid: &Grid,
     request: Request,
     blank: Blank,

@@ -1,10 +1,11 @@
+use crate::pool::CalendarPool;
 use calendars::{Calendar, CalendarView};
 use fleet_base::{Cell, Memory};
 
 // The calendars of all cells, lent to a search: each is known from the beginning.
 #[derive(Drop)]
 pub struct LentView<'a> {
-    pub calendars: &'a [Calendar],
+    pub calendars: &'a CalendarPool,
 }
 
 impl CalendarView for LentView<'_> {
@@ -28,6 +29,6 @@ impl CalendarView for LentView<'_> {
     }
 
     fn calendar(&self, cell: Cell) -> &Calendar {
-        &self.calendars[cell.0 as usize]
+        self.calendars.at(cell)
     }
 }

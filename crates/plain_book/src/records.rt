@@ -1,34 +1,23 @@
-ghost use Rattle.std.specs.Prelude.{◌≡◌, ℕ, ◌<◌, length, All, OnOk, OnErr, IfOk, false, Some, replicate, []};
+ghost use Rattle.std.specs.Prelude.{◌≡◌, ℕ, ◌<◌, length, All, OnOk, OnErr, false, Some};
 ghost use Rattle.fleet_base.specs.declared.grid.Cell.{Cell as ACell};
 ghost use Rattle.fleet_base.specs.TimedWalk.{position};
 ghost use Rattle.calendars.specs.Records.{covers};
 ghost use Rattle.plain_book.specs.Kept.{records_at};
 ghost use Rattle.plain_book.specs.Changes.{FitIn, HasSome, HasAll, HasSomeOf, HasAllOf, LacksId};
 
-use calendars::Calendar;
+use crate::pool::CalendarPool;
 use fleet_base::{Memory, RouteId, Stay, Walk, walk_records};
 use std::alloc::Global;
 
-/// So many calendars without records.
-pub fn empty_calendars(alloc: Global, count: usize) -> Result<Vec<Calendar>, Memory>
-    ensures { IfOk result (λ calendars. calendars.items ≡ replicate count []) }
-{
-    let mut calendars = Vec::with_capacity(alloc, count)?;
-    for _ in 0..count {
-        calendars.push(Calendar::new(alloc))?;
-    }
-    Ok(calendars)
-}
-
 // Puts each record into the calendar of its cell. After want of memory some may be in.
-fn put_records(calendars: &mut [Calendar], stays: &[Stay]) -> Result<(), Memory>
+fn put_records(calendars: &mut CalendarPool, stays: &[Stay]) -> Result<(), Memory>
     requires { FitIn calendars.old stays.now }
+    ensures size { length calendars.new ≡ length calendars.old }
     ensures ok { OnOk result (HasAll calendars.old calendars.new stays.now) }
     ensures refused { OnErr result (HasSome calendars.old calendars.new stays.now) }
 {
     for stay in stays {
-        let calendar = &mut calendars[stay.cell.0 as usize];
-        calendar.insert(stay.span)?;
+        calendars.insert(stay.cell, stay.span)?;
     }
     Ok(())
 }
@@ -36,12 +25,13 @@ fn put_records(calendars: &mut [Calendar], stays: &[Stay]) -> Result<(), Memory>
 /// Puts the records of a walk into the calendars of its cells, where nobody else is. After want of memory some may be in.
 pub fn put_in(
     alloc: Global,
-    calendars: &mut [Calendar],
+    calendars: &mut CalendarPool,
     walk: &Walk,
     id: RouteId,
 ) -> Result<(), Memory>
     requires inside { All (λ c. c.0 < length calendars.old) walk.now.cells }
     requires free { (t : ℕ) (c : ACell) → position walk.now t ≡ Some c → covers (records_at calendars.old c.0) t ≡ false }
+    ensures size { length calendars.new ≡ length calendars.old }
     ensures ok { OnOk result (HasAllOf (record { id = id; walk = walk.now }) calendars.old calendars.new) }
     ensures refused { OnErr result (HasSomeOf (record { id = id; walk = walk.now }) calendars.old calendars.new) }
 {
@@ -51,9 +41,10 @@ pub fn put_in(
 }
 
 /// Takes the records of an id out of the calendars of the walk's cells. It takes no memory.
-pub fn take_out(calendars: &mut [Calendar], walk: &Walk, id: RouteId)
+pub fn take_out(calendars: &mut CalendarPool, walk: &Walk, id: RouteId)
     requires { All (λ c. c.0 < length calendars.old) walk.now.cells }
-    ensures { LacksId id walk.now.cells calendars.old calendars.new }
+    ensures size { length calendars.new ≡ length calendars.old }
+    ensures lacks { LacksId id walk.now.cells calendars.old calendars.new }
 {
     let cells = walk.cells();
     for (place, cell) in cells.iter().enumerate() {
@@ -61,7 +52,6 @@ pub fn take_out(calendars: &mut [Calendar], walk: &Walk, id: RouteId)
         if place > 0 && cells[place - 1] == *cell {
             continue;
         }
-        let calendar = &mut calendars[cell.0 as usize];
-        calendar.remove_id(id);
+        calendars.remove_id(*cell, id);
     }
 }

@@ -6,8 +6,8 @@ ghost use Rattle.fleet_base.specs.History.{same_id, IsLive};
 ghost use Rattle.plain_book.specs.Kept.{AreCalendarsOf, routes_of, id_cmp};
 ghost use Rattle.plain_book.specs.Entering.{MayEnter};
 
+use crate::pool::CalendarPool;
 use crate::records::{put_in, take_out};
-use calendars::Calendar;
 use fleet_base::{Memory, RouteId, Walk};
 use std::alloc::Global;
 use std::collections::BTreeMap;
@@ -29,13 +29,14 @@ pub fn copy_of(alloc: Global, walk: &Walk) -> Result<Walk, Memory>
 /// Adds a route: its walk to the map, and its records to the calendars. After want of memory the routes are as before.
 pub fn add_route(
     alloc: Global,
-    calendars: &mut [Calendar],
+    calendars: &mut CalendarPool,
     routes: &mut BTreeMap<RouteId, Walk>,
     id: RouteId,
     walk: Walk,
 ) -> Result<(), Memory>
     requires calendars { AreCalendarsOf (routes_of routes.old.entries) calendars.old }
     requires route { MayEnter (routes_of routes.old.entries) (length calendars.old) id walk }
+    ensures size { length calendars.new ≡ length calendars.old }
     ensures calendars { AreCalendarsOf (routes_of routes.new.entries) calendars.new }
     ensures ordered { IsStrictlySortedBy id_cmp (keys_of routes.old.entries) → IsStrictlySortedBy id_cmp (keys_of routes.new.entries) }
     ensures ok { OnOk result (IsPermutation (routes_of routes.new.entries) (record { id = id; walk = walk } ∷ routes_of routes.old.entries)) }
@@ -59,12 +60,13 @@ pub fn add_route(
 
 /// Ends the route of that id with its records; false exactly where there is none. It takes no memory.
 pub fn end_route(
-    calendars: &mut [Calendar],
+    calendars: &mut CalendarPool,
     routes: &mut BTreeMap<RouteId, Walk>,
     id: RouteId,
 ) -> bool
     requires calendars { AreCalendarsOf (routes_of routes.old.entries) calendars.old }
     requires ordered { IsStrictlySortedBy id_cmp (keys_of routes.old.entries) }
+    ensures size { length calendars.new ≡ length calendars.old }
     ensures calendars { AreCalendarsOf (routes_of routes.new.entries) calendars.new }
     ensures ordered { IsStrictlySortedBy id_cmp (keys_of routes.new.entries) }
     ensures was_live { IsTrue result ↔ IsLive id (routes_of routes.old.entries) }

@@ -26,9 +26,9 @@ returns-in-Ok-clause-calendars c =
     let same : c.in-Err-insert.refused.value.1 ≡ c.args.walk = ap (λ (p : RouteId × TimedWalk). p.1) c.in-Err-insert.ensures.value_returned in
     subst (λ (es : List (RouteId × TimedWalk)). AreCalendarsOf (routes_of es) c.take_out.new.calendars) (sym c.in-Err-insert.ensures.err)
     (calendars_undo c.args.id c.args.walk (routes_of c.args.routes.now.entries) c.args.calendars.now c.put_in.new.calendars c.take_out.new.calendars c.requires.route.new_id c.requires.calendars
-    c.in-Ok.ensures.ok.rest (subst (λ (w : TimedWalk). LacksId c.args.id w.cells c.put_in.new.calendars c.take_out.new.calendars) same c.take_out.ensures))
+    c.in-Ok.ensures.ok.rest (subst (λ (w : TimedWalk). LacksId c.args.id w.cells c.put_in.new.calendars c.take_out.new.calendars) same c.take_out.ensures.lacks))
 
 pub returns-clause-calendars : goal.returns-clause-calendars
 returns-clause-calendars c =
     calendars_undo c.args.id c.args.walk (routes_of c.args.routes.now.entries) c.args.calendars.now c.put_in.new.calendars c.take_out-in-Err.new.calendars c.requires.route.new_id
-    c.requires.calendars c.in-Err.ensures.refused c.take_out-in-Err.ensures
+    c.requires.calendars c.in-Err.ensures.refused c.take_out-in-Err.ensures.lacks

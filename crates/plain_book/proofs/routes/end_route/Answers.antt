@@ -26,7 +26,7 @@ returns-clause-calendars c =
     let live = route_at c.args.id c.in-Some.walk c.args.routes.now.entries (sym c.in-Some.ensures.value) in
     subst (λ (routes : List Live). AreCalendarsOf routes c.take_out.new.calendars) (sym (returns-clause-routes c))
     (calendars_end c.args.id c.in-Some.walk (routes_of c.args.routes.now.entries) c.args.calendars.now c.take_out.new.calendars
-    (each_once c.args.routes.now.entries c.requires.ordered) live c.requires.calendars c.take_out.ensures)
+    (each_once c.args.routes.now.entries c.requires.ordered) live c.requires.calendars c.take_out.ensures.lacks)
 
 pub returns-clause-was_live : goal.returns-clause-was_live
 returns-clause-was_live c = ((λ h. some_live c.args.id c.in-Some.walk c.args.routes.now.entries c.in-Some.ensures.value), (λ live. refl))

@@ -1,4 +1,4 @@
-use Rattle.std.proofs.Common.{◌∙◌, refl, subst, List}
+use Rattle.std.proofs.Common.{refl, subst, List}
 use Rattle.std.proofs.lemmas.List.Sorted.{IsPermutation-refl}
 use Rattle.std.specs.Prelude.{IsPermutation}
 use Rattle.fleet_base.specs.declared.request.Live.{Live}
@@ -9,8 +9,8 @@ use Rattle.plain_book.proofs.book.PlainBook.cancel.Goals as goal
 
 pub invariant_of-self : goal.invariant_of-self
 invariant_of-self c =
-    kept_same c.self.inside.grid c.self.inside.horizon c.self.inside.stamp c.self.inside.routes.entries c.end_route.new.routes.entries c.self.inside.calendars.len c.self.inside.calendars.items
-    c.end_route.new.calendars c.self.inside.searcher c.self.invariant c.self.inside.calendars.ok.0 (c.end_route.auto.calendars ∙ c.deref_mut.ensures.len ∙ c.self.inside.calendars.ok.0) c.end_route.ensures.ordered c.end_route.ensures.calendars
+    kept_same c.self.inside.grid c.self.inside.horizon c.self.inside.stamp c.self.inside.routes.entries c.end_route.new.routes.entries c.self.inside.calendars
+    c.end_route.new.calendars c.self.inside.searcher c.self.invariant c.end_route.ensures.size c.end_route.ensures.ordered c.end_route.ensures.calendars
     (c.end_route.ensures.refused c.if-not-end_route.true)
 
 pub returns-then-not-end_route-clause-refused : goal.returns-then-not-end_route-clause-refused
@@ -18,8 +18,8 @@ returns-then-not-end_route-clause-refused c = rw (c.end_route.ensures.refused c.
 
 pub invariant_of-self-2 : goal.invariant_of-self-2
 invariant_of-self-2 c =
-    kept_ended c.self.inside.grid c.self.inside.horizon c.self.inside.stamp c.self.inside.routes.entries c.end_route.new.routes.entries c.self.inside.calendars.len c.self.inside.calendars.items
-    c.end_route.new.calendars c.self.inside.searcher c.self.invariant c.self.inside.calendars.ok.0 (c.end_route.auto.calendars ∙ c.deref_mut.ensures.len ∙ c.self.inside.calendars.ok.0) c.end_route.ensures.ordered c.end_route.ensures.calendars
+    kept_ended c.self.inside.grid c.self.inside.horizon c.self.inside.stamp c.self.inside.routes.entries c.end_route.new.routes.entries c.self.inside.calendars
+    c.end_route.new.calendars c.self.inside.searcher c.self.invariant c.end_route.ensures.size c.end_route.ensures.ordered c.end_route.ensures.calendars
     c.args.id c.end_route.ensures.routes
 
 pub returns-clause-ok : goal.returns-clause-ok

@@ -1,6 +1,5 @@
-use Rattle.std.proofs.Common.{List, subst}
+use Rattle.std.proofs.Common.{subst}
 use Rattle.std.proofs.lemmas.Result.{IfOk-weaker}
-use Rattle.fleet_base.specs.declared.request.Record.{Record}
 use Rattle.calendars.specs.Assignments.{traffic_by}
 use Rattle.sipp_search.specs.Scratch.{Scratch}
 use Rattle.plain_book.specs.Kept.{records_at}
@@ -12,8 +11,7 @@ use Rattle.plain_book.proofs.book.PlainBook.find_walk.Goals as goal
 pub returns-clause-found : goal.returns-clause-found
 returns-clause-found c =
     rw (← c.self.view_is) (IfOk-weaker c.find_walk.result _ _ (λ found h.
-    planned_from_found _ c.self.inside.calendars.items c.args.request found
-    (calendars_alike _ c.self.inside.calendars.items c.self.invariant.calendars_are (each_once c.self.inside.routes.entries c.self.invariant.ordered))
-    (subst (λ (cs : List (List Record)). FindsWalk c.self.inside.grid c.self.inside.horizon (traffic_by (records_at cs)) c.args.request found) c.deref.ensures.value
-    (subst (λ (s : Scratch). FindsWalk c.self.inside.grid s.horizon (traffic_by (records_at c.deref.result.now)) c.args.request found) c.self.invariant.searches h)))
+    planned_from_found _ c.self.inside.calendars c.args.request found
+    (calendars_alike _ c.self.inside.calendars c.self.invariant.calendars_are (each_once c.self.inside.routes.entries c.self.invariant.ordered))
+    (subst (λ (s : Scratch). FindsWalk c.self.inside.grid s.horizon (traffic_by (records_at c.self.inside.calendars)) c.args.request found) c.self.invariant.searches h))
     c.find_walk.ensures.found)

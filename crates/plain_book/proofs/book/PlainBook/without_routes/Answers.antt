@@ -1,6 +1,5 @@
-use Rattle.std.proofs.Common.{rules, ap, ◌≡◌, ◌∙◌, ℕ, List, [], length, replicate}
+use Rattle.std.proofs.Common.{rules, ap, ◌∙◌, [], length}
 use Rattle.std.proofs.lemmas.List.{length-replicate}
-use Rattle.plain_book.specs.Kept.{AreCalendarsOf}
 use Rattle.plain_book.proofs.Keeping.{calendars_none}
 use Rattle.plain_book.proofs.book.PlainBook.without_routes.Goals as goal
 
@@ -12,5 +11,5 @@ invariant_of-result c =
       searches = search rules;
       ordered = search rules;
       stamps = search rules;
-      calendars_are = rw (c.new-2.ensures.empty, c.in_ok-calendars.ensures) (calendars_none _);
+      calendars_are = rw (c.new-3.ensures.empty, c.in_ok-calendars.ensures) (calendars_none _);
     }
