@@ -14,4 +14,4 @@ mod tests;
 mod waiting;
 
 pub use distances::Distances;
-pub use place::{Place, moves_between, neighbour_at, place_of};
+pub use place::{Place, beside, moves_between, neighbour_at, place_of};
