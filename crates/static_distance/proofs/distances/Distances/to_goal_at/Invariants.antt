@@ -1,6 +1,6 @@
 use Rattle.std.proofs.Common.{◌≡◌, length}
 use Rattle.static_distance.specs.Aim.{work, IsAimed}
-use Rattle.static_distance.proofs.distances.Distances.to_goal.Given as goal
+use Rattle.static_distance.proofs.distances.Distances.to_goal_at.Given as goal
 
 abbrev pub invariant-loop-self : goal.invariant-loop-self
 invariant-loop-self l = record {
