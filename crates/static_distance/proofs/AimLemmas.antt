@@ -1,5 +1,5 @@
 -- Where nothing is counted: at a new aim.
-use Rattle.std.proofs.Common.{◌≡◌, ℕ, zero, suc, ◌*◌, ◌<◌, inl, inr, List, [], length, Option, Some, None, refl, sym, ap, subst, ◌∙◌, arith, replicate}
+use Rattle.std.proofs.Common.{◌≡◌, ℕ, zero, suc, ◌*◌, ◌<◌, ◌≤◌, inl, inr, List, [], length, Option, Some, None, refl, sym, ap, subst, ◌∙◌, arith, replicate}
 use Rattle.std.specs.Prelude.{slice_get, ◌↔◌, IfSome, IfNone}
 use Rattle.std.proofs.lemmas.Option.{same_Some, none-some}
 use Rattle.std.proofs.lemmas.List.{length-replicate}
@@ -15,7 +15,7 @@ use Rattle.static_distance.specs.Distance.{IsDistance}
 use Rattle.static_distance.specs.Levels.{IsCounted, apart, uncounted}
 use Rattle.static_distance.specs.Spreading.{IsFlood}
 use Rattle.static_distance.specs.Spans.{stride, IsSpan, IsCellAt, Stands, AreListed, AreSpans, flood_of}
-use Rattle.static_distance.specs.Aim.{AreFitting, HasLooked, AnswersDistance}
+use Rattle.static_distance.specs.Aim.{AreFitting, HasLooked, AnswersDistance, IsWithin}
 use Rattle.static_distance.proofs.SpreadLemmas.{begun_flood}
 use Rattle.static_distance.proofs.FloodLemmas.{cell_once}
 use Rattle.static_distance.proofs.SpanLemmas.{span_within, added_stands, added_only, spans_here}
@@ -99,3 +99,10 @@ pub told_distance : (g : Terrain) (goal c : Cell) (marks : List ℕ) (told : Opt
     → IfNone told (slice_get marks c.0 ≡ Some 0) → ((k : ℕ) → IsCounted marks c k → IsDistance g goal c k) → AnswersDistance g goal c told
 told_distance g goal c marks (Some k) counted some none distance = distance k some
 told_distance g goal c marks None counted some none distance = absurd (counted none)
+
+-- a way of so many moves leads to the goal exactly where the distance is no greater
+pub within_near : {g : Terrain} {goal c : Cell} {k moves : ℕ} → IsDistance g goal c k → k ≤ moves → IsWithin g goal c moves
+within_near {k} distance near = (k, distance.way, near)
+
+pub near_within : {g : Terrain} {goal c : Cell} {k moves : ℕ} → IsDistance g goal c k → IsWithin g goal c moves → k ≤ moves
+near_within distance within = (let least = distance.least within.0 within.1 in omega (arith, within.2))

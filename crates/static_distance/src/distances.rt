@@ -112,13 +112,39 @@ impl Distances {
         ensures goal { self.new.goal ≡ self.old.goal }
         ensures room { room self.new ≡ room self.old }
     {
-        let place = place_of(grid, cell);
-        self.to_goal_at(grid, cell, place)
+        match self.marks.moves(cell.0) {
+            Some(moves) => Ok(Some(moves)),
+            None => {
+                let place = place_of(grid, cell);
+                self.count_to(grid, cell, place)
+            }
+        }
     }
 
     /// The same where the cell's place is known. It divides nothing.
-    #[inline]
+    #[inline(always)]
     pub fn to_goal_at(
+        &mut self,
+        grid: &Grid,
+        cell: Cell,
+        place: Place,
+    ) -> Result<Option<u32>, Memory>
+        requires aimed { IsAimed grid.now self.old }
+        requires cell { cell.0 < length grid.now.cells }
+        requires place { IsPlaceOf grid.now cell place }
+        ensures distance { IfOk result (AnswersDistance grid.now self.old.goal cell) }
+        ensures aimed { OnOk result (IsAimed grid.now self.new) }
+        ensures goal { self.new.goal ≡ self.old.goal }
+        ensures room { room self.new ≡ room self.old }
+    {
+        match self.marks.moves(cell.0) {
+            Some(moves) => Ok(Some(moves)),
+            None => self.count_to(grid, cell, place),
+        }
+    }
+
+    // Counts moves until the cell has them, and tells them.
+    fn count_to(
         &mut self,
         grid: &Grid,
         cell: Cell,
@@ -152,6 +178,9 @@ impl Distances {
         ensures goal { self.new.goal ≡ self.old.goal }
         ensures room { room self.new ≡ room self.old }
     {
+        if let Some(counted) = self.marks.moves(cell.0) {
+            return Ok(counted <= moves);
+        }
         if !grid.is_open(cell) {
             return Ok(false);
         }

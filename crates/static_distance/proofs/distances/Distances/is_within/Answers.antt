@@ -7,6 +7,7 @@ use Rattle.static_distance.specs.Levels.{apart}
 use Rattle.static_distance.specs.Spans.{flood_of}
 use Rattle.static_distance.proofs.SpreadLemmas.{flood_distance, flood_far, flood_no_way}
 use Rattle.static_distance.proofs.FloodLemmas.{none_stand}
+use Rattle.static_distance.proofs.AimLemmas.{within_near, near_within}
 use Rattle.static_distance.proofs.distances.Distances.is_within.Goals as goal
 
 pub returns-then-self-last-clause-within : goal.returns-then-self-last-clause-within
@@ -40,11 +41,20 @@ returns-then-not-branch-clause-within c = (
 pub returns-in-Some-clause-within : goal.returns-in-Some-clause-within
 returns-in-Some-clause-within c =
     let g = c.args.grid.now in
-    let d = c.loop-place.self in
+    let d = c.args.self.now in
     let moves = c.in-Some.counted in
-    let distance : IsDistance g d.goal c.args.cell moves = flood_distance g (flood_of g d) c.loop-place.invariant.aimed.flood c.args.cell moves c.in-Some.ensures.some in (
-      (λ yes. (moves, subst (λ (z : Cell). IsWay g z c.args.cell moves) c.loop-place.invariant.goal distance.way, leb-true moves c.args.moves yes)),
-      (λ within.
-          (let least = distance.least within.0 (subst (λ (z : Cell). IsWay g z c.args.cell within.0) (sym c.loop-place.invariant.goal) within.1) in
-          le-leb moves c.args.moves (omega (arith, within.2)))),
+    let distance : IsDistance g d.goal c.args.cell moves = flood_distance g (flood_of g d) c.requires.aimed.flood c.args.cell moves c.in-Some.ensures.some in (
+      (λ yes. within_near distance (leb-true moves c.args.moves yes)),
+      (λ within. le-leb moves c.args.moves (near_within distance within)),
+    )
+
+pub returns-in-Some-moves-clause-within : goal.returns-in-Some-moves-clause-within
+returns-in-Some-moves-clause-within c =
+    let g = c.args.grid.now in
+    let d = c.loop-place.self in
+    let moves = c.in-Some-moves.counted in
+    let distance : IsDistance g c.args.self.now.goal c.args.cell moves = subst (λ (z : Cell). IsDistance g z c.args.cell moves) c.loop-place.invariant.goal
+        (flood_distance g (flood_of g d) c.loop-place.invariant.aimed.flood c.args.cell moves c.in-Some-moves.ensures.some) in (
+      (λ yes. within_near distance (leb-true moves c.args.moves yes)),
+      (λ within. le-leb moves c.args.moves (near_within distance within)),
     )

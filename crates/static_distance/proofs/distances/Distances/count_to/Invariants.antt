@@ -1,6 +1,6 @@
 use Rattle.std.proofs.Common.{◌≡◌, length}
 use Rattle.static_distance.specs.Aim.{work, IsAimed}
-use Rattle.static_distance.proofs.distances.Distances.to_goal_at.Given as goal
+use Rattle.static_distance.proofs.distances.Distances.count_to.Given as goal
 
 abbrev pub invariant-loop-place : goal.invariant-loop-place
 invariant-loop-place l = record {
