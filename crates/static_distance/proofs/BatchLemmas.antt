@@ -3,7 +3,7 @@ use Rattle.std.proofs.Common.{◌≡◌, ◌≢◌, ℕ, zero, suc, ◌+◌, ◌
 use Rattle.std.specs.Prelude.{slice_get}
 use Rattle.std.specs.Int.{bit_at}
 use Rattle.std.proofs.lemmas.Bool.{cases_eq, cases_lt}
-use Rattle.std.proofs.lemmas.List.{get_or-set_same, get_or-set_other, get_or_append_left, get_or_push, get_or_past, length-append}
+use Rattle.std.proofs.lemmas.List.{get_or_append_left, get_or_push, get_or_past, length-append}
 use Rattle.std.proofs.lemmas.Nat.Bits.{bit_at-lt}
 use Rattle.std.proofs.lemmas.Option.{same_Some, slice_get_within}
 use Rattle.row_words.specs.Words.{IsSet}
@@ -12,7 +12,7 @@ use Rattle.static_distance.specs.declared.marking.Batch.{Batch}
 use Rattle.static_distance.specs.declared.marking.Recent.{Recent}
 use Rattle.static_distance.specs.declared.marking.Older.{Older}
 use Rattle.static_distance.specs.Levels.{gap}
-use Rattle.static_distance.specs.Marks.{choose, told, or_else, no_batch, no_older, no_recent, older_mark, recent_mark, mark_of, numbers, AreFalling, KeepsOlder, HasJoined}
+use Rattle.static_distance.specs.Marks.{choose, told, or_else, no_older, no_recent, older_mark, recent_mark, mark_of, numbers, AreFalling, KeepsOlder, HasJoined}
 
 -- ---- numbers in a row
 
@@ -81,15 +81,7 @@ module _ (a b j : Batch) (words : (i : ℕ) → IsSet j.word i ↔ (IsSet a.word
     | inr clear ↦ lacks_told j n other (λ set. elim ((words (n % 64)).0 set) [ inl first ↦ clear first | inr second ↦ out second ]) ∙ sym (lacks_told a n other clear)
   ]
 
-  -- the first batch of 64 cells has them now
-  pub first_joined : (r : Recent) (older : List Older) → r.first ≡ a → HasJoined b r older (record { first = j; newest = r.newest; older = r.older }) older
-  first_joined r older is = record {
-    mine = λ n set none. joined_mine n (or_else r.newest n (older_mark older r.older r.older n)) set;
-    others = λ n out. joined_others n (or_else r.newest n (older_mark older r.older r.older n)) out
-        ∙ ap (λ (z : Batch). or_else z n (or_else r.newest n (older_mark older r.older r.older n))) (sym is);
-  }
-
-  -- the newest one has them now
+  -- the newest batch of 64 cells has them now
   pub newest_joined : (r : Recent) (older : List Older) → r.newest ≡ a → HasJoined b r older (record { first = r.first; newest = j; older = r.older }) older
   newest_joined r older is = record {
     mine = λ n set none.

@@ -143,12 +143,6 @@ module _ (g : Terrain) (old : Distances) (s : Span) (word : ℕ) (is : IsSpan g 
     number_at : (i : ℕ) (c : Cell) → IsCellAt g s i c → c.0 ≡ first + i
     number_at i c at = omega (arith, at.1.2)
 
-    pub mark_inside : (i : ℕ) → IsSet word i → first + i < length old.marks
-    mark_inside i set =
-        let there = cell_in i set in
-        let at : there.0.0 ≡ first + i = number_at i there.0 there.1 in
-        rw at at (slice_get_within old.marks there.0.0 0 there.2.1)
-
     pub marks_free : AreUncounted old.marks first word
     marks_free i set =
         let there = cell_in i set in

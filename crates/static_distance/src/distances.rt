@@ -121,7 +121,7 @@ impl Distances {
         }
     }
 
-    /// The same where the cell's place is known. It divides nothing.
+    /// The same where the cell's place is known: so it divides nothing where the cell isn't counted yet, either.
     #[inline(always)]
     pub fn to_goal_at(
         &mut self,
@@ -144,12 +144,7 @@ impl Distances {
     }
 
     // Counts moves until the cell has them, and tells them.
-    fn count_to(
-        &mut self,
-        grid: &Grid,
-        cell: Cell,
-        place: Place,
-    ) -> Result<Option<u32>, Memory>
+    fn count_to(&mut self, grid: &Grid, cell: Cell, place: Place) -> Result<Option<u32>, Memory>
         requires aimed { IsAimed grid.now self.old }
         requires cell { cell.0 < length grid.now.cells }
         requires place { IsPlaceOf grid.now cell place }

@@ -109,7 +109,9 @@ fn tells_a_cell_beside(rt: HostRuntime) {
     let moves = match neighbour_at(&grid, Cell(0), first, Side::Down) {
         Some(under) => {
             let place = beside(first, Side::Down);
-            distances.to_goal_at(&grid, under, place).expect(&rt, "memory")
+            distances
+                .to_goal_at(&grid, under, place)
+                .expect(&rt, "memory")
         }
         None => None,
     };

@@ -1,4 +1,4 @@
-use Rattle.std.proofs.Common.{◌≡◌, ◌+◌, ◌/◌, ◌%◌, ◌≤◌, arith, subst}
+use Rattle.std.proofs.Common.{◌/◌, ◌%◌, ◌≤◌, arith, subst}
 use Rattle.std.proofs.Math.Nat.{mod-le, div-le_self}
 use Rattle.fleet_base.specs.declared.grid.Side.{Side}
 use Rattle.fleet_base.specs.Terrain.{IsBeside}

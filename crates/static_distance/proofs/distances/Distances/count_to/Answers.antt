@@ -1,4 +1,4 @@
-use Rattle.std.proofs.Common.{sym, subst, ◌∙◌, ℕ}
+use Rattle.std.proofs.Common.{sym, subst, ◌∙◌}
 use Rattle.std.proofs.lemmas.Bool.{false≢true}
 use Rattle.fleet_base.specs.declared.grid.Cell.{Cell}
 use Rattle.static_distance.specs.Distance.{IsWay, IsDistance}

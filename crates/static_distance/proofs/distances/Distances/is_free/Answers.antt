@@ -1,4 +1,4 @@
-use Rattle.std.proofs.Common.{◌≡◌, ◌≢◌, ◌-◌, ◌∙◌, Some, length, rules, arith, ap, sym, nat_eq}
+use Rattle.std.proofs.Common.{◌≡◌, ◌-◌, ◌∙◌, Some, rules, arith, ap, sym}
 use Rattle.std.specs.Prelude.{slice_get, vec_len}
 use Rattle.std.proofs.lemmas.Bool.Decides.{nat_tests}
 use Rattle.std.proofs.lemmas.Option.{slice_get_read, same_Some}

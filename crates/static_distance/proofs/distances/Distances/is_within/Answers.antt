@@ -54,7 +54,7 @@ returns-in-Some-moves-clause-within c =
     let d = c.loop-place.self in
     let moves = c.in-Some-moves.counted in
     let distance : IsDistance g c.args.self.now.goal c.args.cell moves = subst (λ (z : Cell). IsDistance g z c.args.cell moves) c.loop-place.invariant.goal
-        (flood_distance g (flood_of g d) c.loop-place.invariant.aimed.flood c.args.cell moves c.in-Some-moves.ensures.some) in (
+    (flood_distance g (flood_of g d) c.loop-place.invariant.aimed.flood c.args.cell moves c.in-Some-moves.ensures.some) in (
       (λ yes. within_near distance (leb-true moves c.args.moves yes)),
       (λ within. le-leb moves c.args.moves (near_within distance within)),
     )

@@ -1,10 +1,8 @@
-use Rattle.std.proofs.Common.{◌≡◌, ◌<◌, ◌≤◌, ◌^◌, ◌∷◌, ℕ, List, Some, length, refl, rules, arith, set, subst, sym, ap, ◌∙◌}
+use Rattle.std.proofs.Common.{◌≡◌, ◌<◌, ◌^◌, Some, length, refl, rules, arith, set}
 use Rattle.std.specs.Prelude.{slice_get, vec_len}
-use Rattle.std.specs.Vec.{with_item}
 use Rattle.std.proofs.lemmas.Option.{slice_get_read}
-use Rattle.static_distance.specs.declared.marking.Recent.{Recent}
-use Rattle.static_distance.specs.Marks.{mark_of, numbers, no_batch}
-use Rattle.static_distance.proofs.MarkListLemmas.{IsListMarked, cells_count, slot_inside, first_marked, other_marked, older_there}
+use Rattle.static_distance.specs.Marks.{mark_of, numbers}
+use Rattle.static_distance.proofs.MarkListLemmas.{IsListMarked, slot_inside, first_marked, other_marked, older_there}
 use Rattle.static_distance.proofs.marking.Marks.add.Goals as goal
 use Rattle.static_distance.proofs.marking.Marks.add.Goals.{After-get, After-set, After-index-recent, After-index_mut-2}
 

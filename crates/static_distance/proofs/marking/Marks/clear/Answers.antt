@@ -1,4 +1,4 @@
-use Rattle.std.proofs.Common.{◌≡◌, ℕ, List, length, get_or, replicate, ap, sym, ◌∙◌}
+use Rattle.std.proofs.Common.{ℕ, List, get_or, replicate, ap, sym, ◌∙◌}
 use Rattle.static_distance.proofs.BatchLemmas.{zeros_read, numbers_zero, none_marked}
 use Rattle.static_distance.proofs.MarkListLemmas.{cells_count}
 use Rattle.static_distance.proofs.marking.Marks.clear.Goals as goal

@@ -1,4 +1,4 @@
-use Rattle.std.proofs.Common.{◌≡◌, ℕ, ap, ◌∙◌, List, get_or}
+use Rattle.std.proofs.Common.{ℕ, ap, ◌∙◌, List, get_or}
 use Rattle.static_distance.proofs.BatchLemmas.{zeros_read, numbers_zero, none_marked}
 use Rattle.static_distance.proofs.marking.Marks.new.Goals as goal
 
