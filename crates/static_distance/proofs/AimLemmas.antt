@@ -1,6 +1,6 @@
 -- Where nothing is counted: at a new aim.
-use Rattle.std.proofs.Common.{◌≡◌, ℕ, zero, suc, ◌*◌, ◌<◌, inl, inr, List, [], length, Some, refl, sym, ap, subst, ◌∙◌, arith, replicate}
-use Rattle.std.specs.Prelude.{slice_get, ◌↔◌}
+use Rattle.std.proofs.Common.{◌≡◌, ℕ, zero, suc, ◌*◌, ◌<◌, ◌≤◌, inl, inr, List, [], length, Option, Some, None, refl, sym, ap, subst, ◌∙◌, arith, replicate}
+use Rattle.std.specs.Prelude.{slice_get, ◌↔◌, IfSome, IfNone}
 use Rattle.std.proofs.lemmas.Option.{same_Some, none-some}
 use Rattle.std.proofs.lemmas.List.{length-replicate}
 use Rattle.fleet_base.specs.declared.grid.Cell.{Cell}
@@ -11,10 +11,11 @@ use Rattle.static_distance.specs.declared.waiting.Waiting.{Waiting}
 use Rattle.static_distance.specs.Waiting.{HasAdded}
 use Rattle.static_distance.specs.declared.place.Place.{Place}
 use Rattle.static_distance.specs.declared.distances.Distances.{Distances}
+use Rattle.static_distance.specs.Distance.{IsDistance}
 use Rattle.static_distance.specs.Levels.{IsCounted, apart, uncounted}
 use Rattle.static_distance.specs.Spreading.{IsFlood}
 use Rattle.static_distance.specs.Spans.{stride, IsSpan, IsCellAt, Stands, AreListed, AreSpans, flood_of}
-use Rattle.static_distance.specs.Aim.{AreFitting, HasLooked}
+use Rattle.static_distance.specs.Aim.{AreFitting, HasLooked, AnswersDistance, IsWithin}
 use Rattle.static_distance.proofs.SpreadLemmas.{begun_flood}
 use Rattle.static_distance.proofs.FloodLemmas.{cell_once}
 use Rattle.static_distance.proofs.SpanLemmas.{span_within, added_stands, added_only, spans_here}
@@ -92,3 +93,16 @@ module _ (g : Terrain) (b m : Distances) (s : Span) (word i : ℕ) (new : Waitin
       (λ c stands. (let same = only_goal c stands in (same ∙ sym looked.kept.goal, subst (λ (z : Cell). IsOpen g z) (sym same) opened)))
       (λ open_goal. subst (λ (z : Cell). Stands g m.known new.words.items z) (sym looked.kept.goal) goal_waits)
       (λ c stands. none_stands g b cells spans marks_are known_are b.next.words.items c (looked.next_only c stands))
+
+-- what the mark of a cell that is counted tells
+pub told_distance : (g : Terrain) (goal c : Cell) (marks : List ℕ) (told : Option ℕ) → ¬ (slice_get marks c.0 ≡ Some 0) → IfSome told (λ k. IsCounted marks c k)
+    → IfNone told (slice_get marks c.0 ≡ Some 0) → ((k : ℕ) → IsCounted marks c k → IsDistance g goal c k) → AnswersDistance g goal c told
+told_distance g goal c marks (Some k) counted some none distance = distance k some
+told_distance g goal c marks None counted some none distance = absurd (counted none)
+
+-- a way of so many moves leads to the goal exactly where the distance is no greater
+pub within_near : {g : Terrain} {goal c : Cell} {k moves : ℕ} → IsDistance g goal c k → k ≤ moves → IsWithin g goal c moves
+within_near {k} distance near = (k, distance.way, near)
+
+pub near_within : {g : Terrain} {goal c : Cell} {k moves : ℕ} → IsDistance g goal c k → IsWithin g goal c moves → k ≤ moves
+near_within distance within = (let least = distance.least within.0 within.1 in omega (arith, within.2))

@@ -77,6 +77,20 @@ mark_cases (m ∷ marks) (suc i) inside = mark_cases marks i (omega arith)
 count_cases : (g : Terrain) (marks : List ℕ) (c : Cell) → length marks ≡ length g.cells → IsOpen g c → (slice_get marks c.0 ≡ Some 0) ⊎ HasCount marks c
 count_cases g marks c fit opened = let inside : c.0 < length g.cells = slice_get_within g.cells c.0 true opened in mark_cases marks c.0 (omega (arith, fit))
 
+-- an open cell of a span that wasn't looked at isn't counted, and one of another span where the span's word has it
+module _ (g : Terrain) (d : Distances) (s : Span) (i : ℕ) (c : Cell) (spans : AreSpans g d) (is : IsSpan g s) (at : IsCellAt g s i c) (opened : IsOpen g c) where
+  pub unknown_free : slice_get d.known s.number ≢ Some 1 → slice_get d.marks c.0 ≡ Some 0
+  unknown_free unknown = elim (count_cases g d.marks c spans.marks_fit opened) [
+    | inl free ↦ free
+    | inr counted ↦ absurd (unknown (spans.looked s i counted.0 c is at counted.1))
+  ]
+
+  pub word_free : slice_get d.known s.number ≡ Some 1 → (w : ℕ) → slice_get d.free.items s.number ≡ Some w → IsSet w i ↔ (slice_get d.marks c.0 ≡ Some 0)
+  word_free known w there = (
+    λ set. (let cell = spans.free_only s w i is known there set at.0 in subst (λ (z : Cell). slice_get d.marks z.0 ≡ Some 0) (cell_once g s i cell.0 c cell.1 at) cell.2.1),
+    λ free. spans.free_all s w i c is known there at (opened, free),
+  )
+
 -- The batch of a span: what flows from its seeds, over free cells, toward the column that is aimed at.
 module _ (g : Terrain) (s : Span) (seeds free up down batch : ℕ) (old : Distances) (span : IsSpan g s) (known : slice_get old.known s.number ≡ Some 1) (spans : AreSpans g old)
     (free_is : slice_get old.free.items s.number ≡ Some free) (within : (i : ℕ) → IsSet free i → i < 64) (up_is : (i : ℕ) → IsSet up i ↔ ((i < 64) × (s.column + i < old.toward.column)))

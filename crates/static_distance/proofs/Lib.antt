@@ -5,5 +5,8 @@ pub mod FloodLemmas
 pub mod AimLemmas
 pub mod TakeLemmas
 pub mod SpanLemmas
+pub mod ShiftLemmas
+pub mod BatchLemmas
+pub mod MarkListLemmas
 pub mod MarkLemmas
 pub mod SideLemmas

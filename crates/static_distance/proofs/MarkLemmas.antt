@@ -1,5 +1,5 @@
--- Marks: what a write leaves of them, and what the marking of a word's cells keeps.
-use Rattle.std.proofs.Common.{◌≡◌, ◌≢◌, ℕ, zero, suc, ◌+◌, ◌-◌, ◌*◌, ◌<◌, ◌≤◌, ◌^◌, ◌⊎◌, ◌↔◌, inl, inr, List, [], ◌∷◌, length, get_or, Some, refl, sym, ap, subst, ◌∙◌, arith, set}
+-- Marks: what a write leaves of them, and what the marking of a word's cells changes.
+use Rattle.std.proofs.Common.{◌≡◌, ◌≢◌, ℕ, zero, suc, ◌+◌, ◌-◌, ◌*◌, ◌/◌, ◌%◌, ◌<◌, ◌≤◌, ◌^◌, ◌⊎◌, ◌↔◌, inl, inr, List, [], ◌∷◌, length, get_or, Some, refl, sym, ap, subst, ◌∙◌, arith, set}
 use Rattle.std.specs.Prelude.{slice_get}
 use Rattle.std.proofs.lemmas.Bool.{cases_eq, cases_lt}
 use Rattle.std.proofs.lemmas.List.{length-set}
@@ -8,7 +8,7 @@ use Rattle.fleet_base.specs.declared.grid.Cell.{Cell}
 use Rattle.fleet_base.specs.Terrain.{Terrain}
 use Rattle.fleet_base.proofs.TrafficLemmas.{same_cells}
 use Rattle.row_words.specs.Words.{IsSet}
-use Rattle.row_words.proofs.WordLemmas.{set_below, set_or_not, some_set, more_is_greater}
+use Rattle.row_words.proofs.WordLemmas.{set_below, set_or_not, some_set}
 use Rattle.static_distance.specs.declared.distances.Distances.{Distances}
 use Rattle.static_distance.specs.declared.span.Span.{Span}
 use Rattle.static_distance.specs.Levels.{IsCounted, gap, apart, uncounted}
@@ -39,89 +39,80 @@ counted_once marks c j k one two = let same : suc j ≡ suc k = same_Some (suc j
 not_both : (marks : List ℕ) (c : Cell) (k : ℕ) → slice_get marks c.0 ≡ Some 0 → IsCounted marks c k → ⊥
 not_both marks c k none counted = let bad : 0 ≡ suc k = same_Some 0 (suc k) (sym none ∙ counted) in omega arith
 
--- one cell less isn't counted
-pub one_counted : (marks : List ℕ) (i v : ℕ) → slice_get marks i ≡ Some 0 → v ≢ 0 → uncounted (set marks i v) + 1 ≡ uncounted marks
-one_counted [] i v at some = absurd (none-some 0 at)
-one_counted (zero ∷ marks) zero zero at some = absurd (some refl)
-one_counted (zero ∷ marks) zero (suc k) at some = omega arith
-one_counted (suc m ∷ marks) zero v at some = absurd (let bad : suc m ≡ 0 = same_Some (suc m) 0 at in omega arith)
-one_counted (zero ∷ marks) (suc i) v at some = omega (arith, one_counted marks i v at some)
-one_counted (suc m ∷ marks) (suc i) v at some = one_counted marks i v at some
-
 -- ---- the marking of a word's cells
 
 -- no cell of the word is counted
 abbrev pub AreUncounted : List ℕ → ℕ → ℕ → Type 0
 AreUncounted marks first word = (i : ℕ) → IsSet word i → slice_get marks (first + i) ≡ Some 0
 
--- The places of the word that aren't left are marked, and no others.
-pub record IsMarking (old marks : List ℕ) (first word column toward reach left : ℕ) : Type 0 where
-  pub within : (i : ℕ) → IsSet left i → IsSet word i
-  pub count : length marks ≡ length old
-  pub marked : (i k : ℕ) → IsSet word i → ¬ (IsSet left i) → k + gap (column + i) toward ≡ reach → slice_get marks (first + i) ≡ Some (suc k)
-  pub others : (n : ℕ) → ((i : ℕ) → IsSet word i → ¬ (IsSet left i) → n ≢ first + i) → slice_get marks n ≡ slice_get old n
-  pub at_most : AreUncounted old first word → uncounted marks ≤ uncounted old
-  pub fewer : AreUncounted old first word → (i : ℕ) → IsSet word i → ¬ (IsSet left i) → uncounted marks + 1 ≤ uncounted old
+-- where what was counted stays counted, no more cells are uncounted, and fewer where one of them is counted
+at_most_uncounted : (old new : List ℕ) → length new ≡ length old → ((n : ℕ) → (slice_get new n ≡ slice_get old n) ⊎ (slice_get old n ≡ Some 0)) → uncounted new ≤ uncounted old
+at_most_uncounted [] [] count kept = omega arith
+at_most_uncounted [] (m ∷ new) count kept = absurd (omega arith)
+at_most_uncounted (m ∷ old) [] count kept = absurd (omega arith)
+at_most_uncounted (zero ∷ old) (zero ∷ new) count kept = (let rest = at_most_uncounted old new (omega arith) (λ n. kept (suc n)) in omega arith)
+at_most_uncounted (zero ∷ old) (suc m ∷ new) count kept = (let rest = at_most_uncounted old new (omega arith) (λ n. kept (suc n)) in omega arith)
+at_most_uncounted (suc k ∷ old) (suc m ∷ new) count kept = at_most_uncounted old new (omega arith) (λ n. kept (suc n))
+at_most_uncounted (suc k ∷ old) (zero ∷ new) count kept = absurd (elim (kept 0) [
+  | inl same ↦ (let bad : 0 ≡ suc k = same_Some 0 (suc k) same in omega arith)
+  | inr none ↦ (let bad : suc k ≡ 0 = same_Some (suc k) 0 none in omega arith)
+])
 
--- A word is left without one of its places.
-module _ (left place alone rest : ℕ) (mine : IsSet left place) (one : (i : ℕ) → IsSet alone i ↔ (i ≡ place))
-    (less : (i : ℕ) → IsSet rest i ↔ (IsSet left i × ¬ (IsSet alone i))) where
-  -- what is gone was gone before, or is that place
-  gone_cases : (i : ℕ) → ¬ (IsSet rest i) → (i ≡ place) ⊎ (¬ (IsSet left i))
-  gone_cases i gone = elim (cases_eq i place) [
-    | inl same ↦ inl same
-    | inr other ↦ inr (λ set. gone ((less i).1 (set, λ lone. other ((one i).0 lone))))
+pub fewer_uncounted : (old new : List ℕ) (place k : ℕ) → length new ≡ length old → ((n : ℕ) → (slice_get new n ≡ slice_get old n) ⊎ (slice_get old n ≡ Some 0))
+    → slice_get old place ≡ Some 0 → slice_get new place ≡ Some (suc k) → uncounted new + 1 ≤ uncounted old
+fewer_uncounted [] new place k count kept none some = absurd (none-some 0 none)
+fewer_uncounted (m ∷ old) [] place k count kept none some = absurd (omega arith)
+fewer_uncounted (zero ∷ old) (zero ∷ new) zero k count kept none some = absurd (let bad : 0 ≡ suc k = same_Some 0 (suc k) some in omega arith)
+fewer_uncounted (zero ∷ old) (suc n ∷ new) zero k count kept none some = (let rest = at_most_uncounted old new (omega arith) (λ n. kept (suc n)) in omega arith)
+fewer_uncounted (suc m ∷ old) (n ∷ new) zero k count kept none some = absurd (let bad : suc m ≡ 0 = same_Some (suc m) 0 none in omega arith)
+fewer_uncounted (zero ∷ old) (zero ∷ new) (suc place) k count kept none some = (let rest = fewer_uncounted old new place k (omega arith) (λ n. kept (suc n)) none some in omega arith)
+fewer_uncounted (zero ∷ old) (suc n ∷ new) (suc place) k count kept none some = (let rest = fewer_uncounted old new place k (omega arith) (λ n. kept (suc n)) none some in omega arith)
+fewer_uncounted (suc m ∷ old) (suc n ∷ new) (suc place) k count kept none some = fewer_uncounted old new place k (omega arith) (λ n. kept (suc n)) none some
+fewer_uncounted (suc m ∷ old) (zero ∷ new) (suc place) k count kept none some = absurd (elim (kept 0) [
+  | inl same ↦ (let bad : 0 ≡ suc m = same_Some 0 (suc m) same in omega arith)
+  | inr free ↦ (let bad : suc m ≡ 0 = same_Some (suc m) 0 free in omega arith)
+])
+
+-- The cells of a word from `first` on stand in two words of the list, of 64 cells side by side each.
+module _ (word low high first reach middle : ℕ) (low_is : (j : ℕ) → IsSet low j ↔ ((i : ℕ) × (j ≡ first % 64 + i) × (j < 64) × IsSet word i))
+    (high_is : (j : ℕ) → IsSet high j ↔ IsSet word (64 - first % 64 + j)) (old between new : List ℕ)
+    (low_marked : (j : ℕ) → IsSet low j → slice_get between (64 * (first / 64) + j) ≡ Some (suc (reach - gap (64 * (first / 64) + j) middle)))
+    (low_others : (n : ℕ) → ((j : ℕ) → IsSet low j → n ≢ 64 * (first / 64) + j) → slice_get between n ≡ slice_get old n)
+    (high_marked : (j : ℕ) → IsSet high j → slice_get new (64 * (first / 64 + 1) + j) ≡ Some (suc (reach - gap (64 * (first / 64 + 1) + j) middle)))
+    (high_others : (n : ℕ) → ((j : ℕ) → IsSet high j → n ≢ 64 * (first / 64 + 1) + j) → slice_get new n ≡ slice_get between n) where
+  pub two_marked : (i : ℕ) → IsSet word i → slice_get new (first + i) ≡ Some (suc (reach - gap (first + i) middle))
+  two_marked i set = elim (cases_lt (first % 64 + i) 64) [
+    | inl below ↦
+        let place : 64 * (first / 64) + (first % 64 + i) ≡ first + i = omega arith in
+        let marked = low_marked (first % 64 + i) ((low_is (first % 64 + i)).1 (i, refl, below, set)) in
+        high_others (first + i) (λ j has e. omega arith) ∙ subst (λ (n : ℕ). slice_get between n ≡ Some (suc (reach - gap n middle))) place marked
+    | inr above ↦
+        let place : 64 * (first / 64 + 1) + (first % 64 + i - 64) ≡ first + i = omega arith in
+        let from : i ≡ 64 - first % 64 + (first % 64 + i - 64) = omega arith in
+        let marked = high_marked (first % 64 + i - 64) ((high_is (first % 64 + i - 64)).1 (subst (λ (k : ℕ). IsSet word k) from set)) in
+        subst (λ (n : ℕ). slice_get new n ≡ Some (suc (reach - gap n middle))) place marked
   ]
 
-  place_gone : ¬ (IsSet rest place)
-  place_gone set = ((less place).0 set).1 ((one place).1 refl)
+  two_others : (n : ℕ) → ((i : ℕ) → IsSet word i → n ≢ first + i) → slice_get new n ≡ slice_get old n
+  two_others n out =
+      high_others n (λ j set e. out (64 - first % 64 + j) ((high_is j).0 set) (omega arith))
+      ∙ low_others n (λ j set e. (let from = (low_is j).0 set in out from.0 from.3 (omega (arith, from.1))))
 
-  still_gone : (i : ℕ) → ¬ (IsSet left i) → ¬ (IsSet rest i)
-  still_gone i gone set = gone ((less i).0 set).0
+  -- they weren't counted before
+  module _ (free : AreUncounted old first word) where
+    free_or_kept : (n : ℕ) → (slice_get new n ≡ slice_get old n) ⊎ (slice_get old n ≡ Some 0)
+    free_or_kept n = elim (cases_lt n first) [
+      | inl before ↦ inl (two_others n (λ i set e. omega arith))
+      | inr after ↦ elim (set_or_not word (n - first)) [
+        | inl set ↦ (let place : first + (n - first) ≡ n = omega arith in inr (subst (λ (k : ℕ). slice_get old k ≡ Some 0) place (free (n - first) set)))
+        | inr clear ↦ inl (two_others n (λ i set e. (let place : i ≡ n - first = omega arith in clear (subst (λ (k : ℕ). IsSet word k) place set))))
+      ]
+    ]
 
-  -- it falls
-  pub left_falls : rest < left
-  left_falls = more_is_greater rest left place (λ i set. ((less i).0 set).0) mine place_gone
-
-  -- that place is marked
-  module _ (old marks : List ℕ) (first word column toward reach value : ℕ) (is : IsMarking old marks first word column toward reach left)
-      (inside : first + place < length marks) (key : value + gap (column + place) toward ≡ reach + 1) (some : value ≢ 0) where
-    -- its cell wasn't counted before
-    uncounted_before : AreUncounted old first word → slice_get marks (first + place) ≡ Some 0
-    uncounted_before free =
-        is.others (first + place) (λ i set gone same. (let place_is : place ≡ i = omega arith in gone (rw place_is at mine)))
-        ∙ free place (is.within place mine)
-
-    one_less : AreUncounted old first word → uncounted (set marks (first + place) value) + 1 ≤ uncounted old
-    one_less free =
-        let before : uncounted (set marks (first + place) value) + 1 ≡ uncounted marks = one_counted marks (first + place) value (uncounted_before free) some in
-        omega (arith, is.at_most free)
-
-    pub marking_goes_on : IsMarking old (set marks (first + place) value) first word column toward reach rest
-    marking_goes_on = record {
-      within = λ i set. is.within i ((less i).0 set).0;
-      count = length-set marks (first + place) value ∙ is.count;
-      marked = λ i k set gone moves. elim (cases_eq i place) [
-        | inl same ↦
-            let same_gap : gap (column + i) toward ≡ gap (column + place) toward = ap (λ (n : ℕ). gap (column + n) toward) same in
-            let number : value ≡ suc k = omega arith in
-            mark_set marks (first + place) (first + i) value (ap (λ (n : ℕ). first + n) same) inside ∙ ap Some number
-        | inr other ↦ elim (gone_cases i gone) [
-          | inl same ↦ absurd (other same)
-          | inr before ↦ mark_other marks (first + place) (first + i) value (λ e. other (omega arith)) ∙ is.marked i k set before moves
-        ]
-      ];
-      others = λ n out. mark_other marks (first + place) n value (out place (is.within place mine) place_gone) ∙ is.others n (λ i set gone. out i set (still_gone i gone));
-      at_most = λ free. omega (arith, one_less free);
-      fewer = λ free i set gone. one_less free;
-    }
-
--- at the end none is left
-pub marking_ends : (old marks : List ℕ) (first word column toward reach left : ℕ) → IsMarking old marks first word column toward reach left → ((i : ℕ) → ¬ (IsSet left i))
-    → word < 2 ^ 64 → AreUncounted old first word → word ≢ 0 → uncounted marks + 1 ≤ uncounted old
-marking_ends old marks first word column toward reach left is none fits free some =
-    let place : (i : ℕ) × (i < 64) × IsSet word i = some_set word fits some in
-    is.fewer free place.0 place.2 (none place.0)
+    pub two_fewer : length new ≡ length old → word < 2 ^ 64 → word ≢ 0 → uncounted new + 1 ≤ uncounted old
+    two_fewer count fits some =
+        let place : (i : ℕ) × (i < 64) × IsSet word i = some_set word fits some in
+        fewer_uncounted old new (first + place.0) _ count free_or_kept (free place.0 place.2) (two_marked place.0 place.2)
 
 -- ---- the cells of a span are counted
 
@@ -151,12 +142,6 @@ module _ (g : Terrain) (old : Distances) (s : Span) (word : ℕ) (is : IsSpan g 
   module _ (first : ℕ) (first_is : first ≡ s.row * g.width + s.column) where
     number_at : (i : ℕ) (c : Cell) → IsCellAt g s i c → c.0 ≡ first + i
     number_at i c at = omega (arith, at.1.2)
-
-    pub mark_inside : (i : ℕ) → IsSet word i → first + i < length old.marks
-    mark_inside i set =
-        let there = cell_in i set in
-        let at : there.0.0 ≡ first + i = number_at i there.0 there.1 in
-        rw at at (slice_get_within old.marks there.0.0 0 there.2.1)
 
     pub marks_free : AreUncounted old.marks first word
     marks_free i set =

@@ -75,6 +75,23 @@ module _ (g : Terrain) (toward place : Place) (c n : Cell) (is : IsPlaceOf g c p
       let row : place.row ≡ y = is.1 ∙ row_at g c x y at in
       omega (arith, apart_at g toward c x y at, apart_at g toward n x (y + 1) to)
 
+-- the place of the cell on one side
+pub place_up : (g : Terrain) (place : Place) (c n : Cell) → IsPlaceOf g c place → IsBeside g Up c n → (place.column ≡ n.0 % g.width) × (place.row ≡ n.0 / g.width + 1)
+place_up g place c n of (x, y, at, to) =
+    (omega (arith, of.0, column_at g c x (y + 1) at, column_at g n x y to), omega (arith, of.1, row_at g c x (y + 1) at, row_at g n x y to))
+
+pub place_left : (g : Terrain) (place : Place) (c n : Cell) → IsPlaceOf g c place → IsBeside g Left c n → (place.column ≡ n.0 % g.width + 1) × (place.row ≡ n.0 / g.width)
+place_left g place c n of (x, y, at, to) =
+    (omega (arith, of.0, column_at g c (x + 1) y at, column_at g n x y to), omega (arith, of.1, row_at g c (x + 1) y at, row_at g n x y to))
+
+pub place_right : (g : Terrain) (place : Place) (c n : Cell) → IsPlaceOf g c place → IsBeside g Right c n → (place.column + 1 ≡ n.0 % g.width) × (place.row ≡ n.0 / g.width)
+place_right g place c n of (x, y, at, to) =
+    (omega (arith, of.0, column_at g c x y at, column_at g n (x + 1) y to), omega (arith, of.1, row_at g c x y at, row_at g n (x + 1) y to))
+
+pub place_down : (g : Terrain) (place : Place) (c n : Cell) → IsPlaceOf g c place → IsBeside g Down c n → (place.column ≡ n.0 % g.width) × (place.row + 1 ≡ n.0 / g.width)
+place_down g place c n of (x, y, at, to) =
+    (omega (arith, of.0, column_at g c x y at, column_at g n x (y + 1) to), omega (arith, of.1, row_at g c x y at, row_at g n x (y + 1) to))
+
 -- a move changes the distance to a place by one at most
 pub low_apart : (g : Terrain) (toward : Place) (side : Side) (c n : Cell) → IsBeside g side c n → apart g toward n ≤ apart g toward c + 1
 low_apart g toward Up c n (x, y, at, to) = omega (arith, apart_at g toward c x (y + 1) at, apart_at g toward n x y to)

@@ -1,7 +1,7 @@
 ghost use Rattle.std.specs.Prelude.{◌≡◌, ◌≢◌, ℕ, ◌+◌, ◌*◌, ◌<◌, ◌≤◌, ◌↔◌, [], ◌∷◌, ◌++◌, length, Some, IfOk, OnOk, IfSome, IfNone, IsTrue, slice_get};
 ghost use Rattle.std.specs.Bool.{OnTrue, OnFalse};
 
-use crate::marking::mark_all;
+use crate::marking::Marks;
 use crate::place::{Place, moves_between, place_of};
 use crate::span::{Span, cells_of, span_at, stride};
 use crate::waiting::Waiting;
@@ -18,7 +18,7 @@ pub struct Distances {
     goal: Cell,
     toward: Place,
     // 1 plus the moves of each cell that is counted, else 0.
-    marks: StampedList,
+    marks: Marks,
     // By the number of a span: 1 where it was looked at since the last aim, and then its cells that are open and not counted.
     known: StampedList,
     free: Vec<u64>,
@@ -30,7 +30,7 @@ pub struct Distances {
 }
 
 impl Distances {
-    ghost use Rattle.fleet_base.specs.Terrain.{Terrain};
+    ghost use Rattle.fleet_base.specs.Terrain.{Terrain, IsOpen};
     ghost use Rattle.fleet_base.specs.declared.grid.Cell.{Cell as ACell};
     ghost use Rattle.row_words.specs.Words.{IsSet};
     ghost use Rattle.fleet_base.specs.declared.grid.Side.TheVariants.{Up, Left, Right, Down};
@@ -47,7 +47,7 @@ impl Distances {
             alloc,
             goal: Cell(0),
             toward: Place { column: 0, row: 0 },
-            marks: StampedList::new(alloc, cells)?,
+            marks: Marks::new(alloc, cells)?,
             known: StampedList::new(alloc, 0)?,
             free: Vec::new(alloc),
             level: 0,
@@ -112,15 +112,56 @@ impl Distances {
         ensures goal { self.new.goal ≡ self.old.goal }
         ensures room { room self.new ≡ room self.old }
     {
+        match self.marks.moves(cell.0) {
+            Some(moves) => Ok(Some(moves)),
+            None => {
+                let place = place_of(grid, cell);
+                self.count_to(grid, cell, place)
+            }
+        }
+    }
+
+    /// The same where the cell's place is known: so it divides nothing where the cell isn't counted yet, either.
+    #[inline(always)]
+    pub fn to_goal_at(
+        &mut self,
+        grid: &Grid,
+        cell: Cell,
+        place: Place,
+    ) -> Result<Option<u32>, Memory>
+        requires aimed { IsAimed grid.now self.old }
+        requires cell { cell.0 < length grid.now.cells }
+        requires place { IsPlaceOf grid.now cell place }
+        ensures distance { IfOk result (AnswersDistance grid.now self.old.goal cell) }
+        ensures aimed { OnOk result (IsAimed grid.now self.new) }
+        ensures goal { self.new.goal ≡ self.old.goal }
+        ensures room { room self.new ≡ room self.old }
+    {
+        match self.marks.moves(cell.0) {
+            Some(moves) => Ok(Some(moves)),
+            None => self.count_to(grid, cell, place),
+        }
+    }
+
+    // Counts moves until the cell has them, and tells them.
+    fn count_to(&mut self, grid: &Grid, cell: Cell, place: Place) -> Result<Option<u32>, Memory>
+        requires aimed { IsAimed grid.now self.old }
+        requires cell { cell.0 < length grid.now.cells }
+        requires place { IsPlaceOf grid.now cell place }
+        ensures distance { IfOk result (AnswersDistance grid.now self.old.goal cell) }
+        ensures aimed { OnOk result (IsAimed grid.now self.new) }
+        ensures goal { self.new.goal ≡ self.old.goal }
+        ensures room { room self.new ≡ room self.old }
+    {
         if !grid.is_open(cell) {
             return Ok(None);
         }
-        while self.marks.get(cell.0 as usize) == 0 {
+        while self.is_free(grid, cell, place) {
             if !self.advance(grid)? {
                 return Ok(None);
             }
         }
-        Ok(Some(self.marks.get(cell.0 as usize) - 1))
+        Ok(self.marks.moves(cell.0))
     }
 
     /// Whether a way of so many moves leads from a cell to the goal, or of fewer. It counts no farther than that takes.
@@ -132,11 +173,15 @@ impl Distances {
         ensures goal { self.new.goal ≡ self.old.goal }
         ensures room { room self.new ≡ room self.old }
     {
+        if let Some(counted) = self.marks.moves(cell.0) {
+            return Ok(counted <= moves);
+        }
         if !grid.is_open(cell) {
             return Ok(false);
         }
-        let last = moves.saturating_add(moves_between(place_of(grid, cell), self.toward));
-        while self.marks.get(cell.0 as usize) == 0 {
+        let place = place_of(grid, cell);
+        let last = moves.saturating_add(moves_between(place, self.toward));
+        while self.is_free(grid, cell, place) {
             if self.level > last {
                 return Ok(false);
             }
@@ -144,7 +189,23 @@ impl Distances {
                 return Ok(false);
             }
         }
-        Ok(self.marks.get(cell.0 as usize) - 1 <= moves)
+        match self.marks.moves(cell.0) {
+            Some(counted) => Ok(counted <= moves),
+            None => Ok(false),
+        }
+    }
+
+    // Whether an open cell isn't counted yet. Its span's word says so at once, where marks may have to be looked for.
+    #[inline(always)]
+    fn is_free(&self, grid: &Grid, cell: Cell, place: Place) -> bool
+        requires cell { IsOpen grid.now cell }
+        requires place { IsPlaceOf grid.now cell place }
+        requires spans { AreSpans grid.now self.now }
+        ensures { IsTrue result ↔ (slice_get self.now.marks cell.0 ≡ Some 0) }
+    {
+        let span = span_at(grid, cell, place);
+        let number = span.number as usize;
+        self.known.get(number) != 1 || is_set(self.free[number], place.column - span.column)
     }
 
     // Counts the waiting cells of one span more, or finds that they were counted before. False where none waits.
@@ -249,7 +310,7 @@ impl Distances {
         if batch == 0 {
             return Ok(());
         }
-        self.count(grid, span, batch);
+        self.count(grid, span, batch)?;
         self.spread_up(grid, span, batch)?;
         self.spread_down(grid, span, batch)?;
         self.spread_left(grid, span, batch, falling)?;
@@ -279,7 +340,7 @@ impl Distances {
 
     // Counts all cells that the word has in the span.
     #[inline(always)]
-    fn count(&mut self, grid: &Grid, span: Span, word: u64)
+    fn count(&mut self, grid: &Grid, span: Span, word: u64) -> Result<(), Memory>
         requires span { IsSpan grid.now span }
         requires near { (self.old.toward.column < 2048) × (self.old.toward.row < 2048) }
         requires known { slice_get self.old.known span.number ≡ Some 1 }
@@ -288,22 +349,23 @@ impl Distances {
         requires some { word ≢ 0 }
         requires free { (i : ℕ) → IsSet word i → (w : ℕ) → slice_get self.old.free.items span.number ≡ Some w → IsSet w i }
         requires on_level { (c : ACell) → Holds grid.now span word c → apart grid.now self.old.toward c ≤ self.old.level }
-        ensures counted { HasCounted grid.now span word self.old self.new }
-        ensures spans { AreSpans grid.now self.new }
-        ensures less { uncounted self.new.marks + 1 ≤ uncounted self.old.marks }
+        ensures aim { KeepsAim self.old self.new }
+        ensures counted { OnOk result (HasCounted grid.now span word self.old self.new) }
+        ensures spans { OnOk result (AreSpans grid.now self.new) }
+        ensures less { OnOk result (uncounted self.new.marks + 1 ≤ uncounted self.old.marks) }
     {
         let _limits = grid.cells();
         let number = span.number as usize;
         let reach = self.level - span.row.abs_diff(self.toward.row);
-        mark_all(
-            &mut self.marks,
+        self.marks.mark_all(
             grid.width() * span.row + span.column,
             word,
             span.column,
             self.toward.column,
             reach,
-        );
+        )?;
         self.free[number] = without(self.free[number], word);
+        Ok(())
     }
 
     fn spread_up(&mut self, grid: &Grid, span: Span, word: u64) -> Result<(), Memory>

@@ -1,4 +1,4 @@
-ghost use Rattle.std.specs.Prelude.{◌≡◌, ◌<◌, length, IfSome, IfNone};
+ghost use Rattle.std.specs.Prelude.{◌≡◌, ◌<◌, ◌^◌, length, IfSome, IfNone};
 ghost use Rattle.fleet_base.specs.Terrain.{Terrain, IsBeside};
 ghost use Rattle.fleet_base.specs.declared.grid.Cell.{Cell as ACell};
 ghost use Rattle.static_distance.specs.Levels.{IsPlaceOf, between};
@@ -52,5 +52,30 @@ pub fn neighbour_at(grid: &Grid, cell: Cell, place: Place, side: Side) -> Option
         Side::Right if place.column + 1 < grid.width() => Some(Cell(cell.0 + 1)),
         Side::Down if place.row + 1 < grid.height() => Some(Cell(cell.0 + grid.width())),
         _ => None,
+    }
+}
+
+/// The place on that side of a cell's place, where a cell is there. It needs no grid, and divides nothing.
+#[inline(always)]
+pub fn beside(place: Place, side: Side) -> Place
+    ensures { (g : Terrain) (c n : ACell) → n.0 < 2 ^ 32 → IsPlaceOf g c place → IsBeside g side c n → IsPlaceOf g n result }
+{
+    match side {
+        Side::Up => Place {
+            column: place.column,
+            row: place.row.saturating_sub(1),
+        },
+        Side::Left => Place {
+            column: place.column.saturating_sub(1),
+            row: place.row,
+        },
+        Side::Right => Place {
+            column: place.column.saturating_add(1),
+            row: place.row,
+        },
+        Side::Down => Place {
+            column: place.column,
+            row: place.row.saturating_add(1),
+        },
     }
 }

@@ -2,7 +2,7 @@ ghost use Rattle.std.specs.Prelude.{◌≡◌, ◌<◌, length, IfOk};
 ghost use Rattle.static_distance.specs.Aim.{room};
 
 use super::*;
-use fleet_base::{Cell, Grid, Memory};
+use fleet_base::{Cell, Grid, Memory, Side};
 use std::alloc::{AllocError, Global};
 
 // Four columns and three rows; the last cell of the first row is open, and closed cells are on all its sides.
@@ -97,4 +97,23 @@ fn counts_over_seams(rt: HostRuntime) {
     assert_eq!(rt; away, (Some(4), Some(65)));
     let middle = two(&mut distances, &grid, 259, 194, (130, 63)).expect(&rt, "memory");
     assert_eq!(rt; middle, (Some(129), None));
+}
+
+// Counted by hand: from the cell under the first one, whose place is that beside.
+#[test]
+fn tells_a_cell_beside(rt: HostRuntime) {
+    let grid = wall(rt.alloc()).expect(&rt, "memory");
+    let mut distances = Distances::new(rt.alloc(), 9).expect(&rt, "memory");
+    distances.aim(&grid, Cell(2), Cell(0)).expect(&rt, "memory");
+    let first = place_of(&grid, Cell(0));
+    let moves = match neighbour_at(&grid, Cell(0), first, Side::Down) {
+        Some(under) => {
+            let place = beside(first, Side::Down);
+            distances
+                .to_goal_at(&grid, under, place)
+                .expect(&rt, "memory")
+        }
+        None => None,
+    };
+    assert_eq!(rt; moves, Some(5));
 }

@@ -1,7 +1,7 @@
 use Rattle.std.proofs.Common.{◌-◌, ◌≤◌, refl, arith}
 use Rattle.std.specs.Vec.{with_item}
 use Rattle.static_distance.specs.Levels.{gap}
-use Rattle.static_distance.proofs.MarkLemmas.{first_number, mark_inside, low_at, low_row, marks_free, has_counted, spans_after}
+use Rattle.static_distance.proofs.MarkLemmas.{first_number, low_row, marks_free, has_counted, spans_after}
 use Rattle.static_distance.proofs.distances.Distances.count.Goals as goal
 
 pub overflow_sub-reach : goal.overflow_sub-reach
@@ -10,13 +10,9 @@ overflow_sub-reach c =
     low_row _ _ _ _ c.requires.span c.requires.spans c.requires.known c.ranges.word.fits c.requires.free _ refl c.requires.on_level c.requires.some in
     omega arith
 
-pub mark_all-requires-clause-inside : goal.mark_all-requires-clause-inside
-mark_all-requires-clause-inside c =
-    mark_inside _ _ _ _ c.requires.span c.requires.spans c.requires.known c.ranges.word.fits c.requires.free _ (first_number c.args.grid.now c.args.span _ c.width.ensures)
-
-pub mark_all-requires-clause-enough : goal.mark_all-requires-clause-enough
-mark_all-requires-clause-enough c = λ i set.
-    omega (arith, low_at _ _ _ _ c.requires.span c.requires.spans c.requires.known c.ranges.word.fits c.requires.free _ refl c.requires.on_level i set)
+pub mark_all-requires-clause-free : goal.mark_all-requires-clause-free
+mark_all-requires-clause-free c =
+    marks_free _ _ _ _ c.requires.span c.requires.spans c.requires.known c.ranges.word.fits c.requires.free _ (first_number c.args.grid.now c.args.span _ c.width.ensures)
 
 pub returns-clause-counted : goal.returns-clause-counted
 returns-clause-counted c =
@@ -24,7 +20,7 @@ returns-clause-counted c =
     let low : gap c.args.span.row now.toward.row ≤ now.level =
     low_row _ _ _ _ c.requires.span c.requires.spans c.requires.known c.ranges.word.fits c.requires.free _ refl c.requires.on_level c.requires.some in
     has_counted _ _ _ _ c.requires.span c.requires.spans c.requires.known c.ranges.word.fits c.requires.free _ (first_number c.args.grid.now c.args.span _ c.width.ensures)
-    c.requires.on_level (now.level - c.abs_diff.result) (omega arith) _ c.mark_all.ensures.marked c.mark_all.ensures.others
+    c.requires.on_level (now.level - c.abs_diff.result) (omega arith) _ c.in_ok-mark_all.ensures.marked c.in_ok-mark_all.ensures.others
     (record now { free = with_item now.free c.args.span.number c.without.result })
 
 pub returns-clause-spans : goal.returns-clause-spans
@@ -33,9 +29,8 @@ returns-clause-spans c =
     let low : gap c.args.span.row now.toward.row ≤ now.level =
     low_row _ _ _ _ c.requires.span c.requires.spans c.requires.known c.ranges.word.fits c.requires.free _ refl c.requires.on_level c.requires.some in
     spans_after _ _ _ _ c.requires.span c.requires.spans c.requires.known c.ranges.word.fits c.requires.free _ (first_number c.args.grid.now c.args.span _ c.width.ensures)
-    c.requires.on_level (now.level - c.abs_diff.result) (omega arith) _ c.mark_all.ensures.marked c.mark_all.ensures.others _ _ c.index.ensures c.without.ensures
+    c.requires.on_level (now.level - c.abs_diff.result) (omega arith) _ c.in_ok-mark_all.ensures.marked c.in_ok-mark_all.ensures.others _ _ c.index.ensures c.without.ensures
     (record now { free = with_item now.free c.args.span.number c.without.result }) c.mark_all.ensures.count refl
 
 pub returns-clause-less : goal.returns-clause-less
-returns-clause-less c = c.mark_all.ensures.fewer
-    (marks_free _ _ _ _ c.requires.span c.requires.spans c.requires.known c.ranges.word.fits c.requires.free _ (first_number c.args.grid.now c.args.span _ c.width.ensures)) c.requires.some
+returns-clause-less c = c.in_ok-mark_all.ensures.fewer c.requires.some

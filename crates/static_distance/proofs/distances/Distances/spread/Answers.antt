@@ -51,8 +51,8 @@ spread_left-requires-clause-shut c =
     let at : slice_get now.free.items c.args.span.number ≡ Some free = slice_get_read now.free.items (vec_len now.free) c.args.span.number free (search rules) (search rules) c.index-free.ensures in
     shut_left g c.args.span c.args.seeds free c.rising-rising.result c.falling-falling.result c.filled-batch.result now c.requires.span c.requires.known c.requires.spans at (λ i set. set_below free i (search rules) set)
     c.rising-rising.ensures c.falling-falling.ensures c.filled-batch.ensures c.requires.flood
-    c.count.new.self c.spread_down.new.self c.count.ensures.counted (c.spread_down.ensures.marks ∙ c.spread_up.ensures.marks)
-    (c.in_ok-spread_down.ensures.spread.kept.toward ∙ (c.in_ok-spread_up.ensures.spread.kept.toward ∙ c.count.ensures.counted.toward))
+    c.count.new.self c.spread_down.new.self c.in_ok-count.ensures.counted (c.spread_down.ensures.marks ∙ c.spread_up.ensures.marks)
+    (c.in_ok-spread_down.ensures.spread.kept.toward ∙ (c.in_ok-spread_up.ensures.spread.kept.toward ∙ c.in_ok-count.ensures.counted.toward))
 
 pub spread_right-requires-clause-shut : goal.spread_right-requires-clause-shut
 spread_right-requires-clause-shut c =
@@ -62,8 +62,8 @@ spread_right-requires-clause-shut c =
     let at : slice_get now.free.items c.args.span.number ≡ Some free = slice_get_read now.free.items (vec_len now.free) c.args.span.number free (search rules) (search rules) c.index-free.ensures in
     shut_right g c.args.span c.args.seeds free c.rising-rising.result c.falling-falling.result c.filled-batch.result now c.requires.span c.requires.known c.requires.spans at (λ i set. set_below free i (search rules) set)
     c.rising-rising.ensures c.falling-falling.ensures c.filled-batch.ensures c.requires.flood
-    c.count.new.self c.spread_left.new.self c.count.ensures.counted (c.spread_left.ensures.marks ∙ (c.spread_down.ensures.marks ∙ c.spread_up.ensures.marks))
-    (c.in_ok-spread_left.ensures.spread.kept.toward ∙ (c.in_ok-spread_down.ensures.spread.kept.toward ∙ (c.in_ok-spread_up.ensures.spread.kept.toward ∙ c.count.ensures.counted.toward)))
+    c.count.new.self c.spread_left.new.self c.in_ok-count.ensures.counted (c.spread_left.ensures.marks ∙ (c.spread_down.ensures.marks ∙ c.spread_up.ensures.marks))
+    (c.in_ok-spread_left.ensures.spread.kept.toward ∙ (c.in_ok-spread_down.ensures.spread.kept.toward ∙ (c.in_ok-spread_up.ensures.spread.kept.toward ∙ c.in_ok-count.ensures.counted.toward)))
 
 pub returns-clause-flood : goal.returns-clause-flood
 returns-clause-flood c =
@@ -73,5 +73,5 @@ returns-clause-flood c =
     let at : slice_get now.free.items c.args.span.number ≡ Some free = slice_get_read now.free.items (vec_len now.free) c.args.span.number free (search rules) (search rules) c.index-free.ensures in
     spread_spans g c.args.span c.args.seeds free c.rising-rising.result c.falling-falling.result c.filled-batch.result now c.requires.span c.requires.known c.requires.spans at (λ i set. set_below free i (search rules) set)
     c.rising-rising.ensures c.falling-falling.ensures c.filled-batch.ensures c.requires.flood
-    c.count.new.self c.spread_up.new.self c.spread_down.new.self c.spread_left.new.self c.spread_right.new.self c.count.ensures.counted
-    c.in_ok-spread_up.ensures.spread c.in_ok-spread_down.ensures.spread c.in_ok-spread_left.ensures.spread c.in_ok-spread_right.ensures.spread c.count.ensures.spans.marks_fit
+    c.count.new.self c.spread_up.new.self c.spread_down.new.self c.spread_left.new.self c.spread_right.new.self c.in_ok-count.ensures.counted
+    c.in_ok-spread_up.ensures.spread c.in_ok-spread_down.ensures.spread c.in_ok-spread_left.ensures.spread c.in_ok-spread_right.ensures.spread c.in_ok-count.ensures.spans.marks_fit
