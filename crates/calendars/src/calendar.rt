@@ -87,13 +87,14 @@ fn place_of(records: &[Record], time: u32) -> usize
     records.partition_point(|r| r.from <= time)
 }
 
-// Room for one record more. Each cell has a calendar, and most stay short, so they grow by little.
+// Room for one record more. Many calendars have a single record, and most others few.
 fn make_room(records: &mut Vec<Record>) -> Result<(), Memory>
     ensures { records.new.items ≡ records.old.items }
 {
     let count = records.len();
     if count == records.capacity() {
-        records.reserve_exact(count / 4 + 1)?;
+        let more = if count == 0 { 1 } else { count / 4 + 3 };
+        records.reserve_exact(more)?;
     }
     Ok(())
 }
