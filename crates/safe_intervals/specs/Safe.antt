@@ -1,8 +1,9 @@
 -- Safe intervals: the maximal ranges of times from 0 to the horizon that no record covers.
-use Rattle.std.specs.Prelude.{◌≡◌, ℕ, ◌+◌, ◌-◌, ◌<◌, ◌≤◌, ◌⊎◌, true, false, List, Option, Some, None, All, AllPairs, slice_get}
+use Rattle.std.specs.Prelude.{◌≡◌, ◌≢◌, ℕ, ◌+◌, ◌-◌, ◌<◌, ◌≤◌, ◌⊎◌, true, false, List, Option, Some, None, All, AllPairs, slice_get}
 use Rattle.std.specs.List.{Any}
 use Rattle.fleet_base.specs.declared.request.Record.{Record}
 use Rattle.safe_intervals.specs.declared.interval.Interval.{Interval}
+use Rattle.calendars.specs.Places.{place_in}
 use Rattle.calendars.specs.Records.{covers}
 
 -- the time is one of the range's
@@ -70,3 +71,16 @@ LeavesFirst records low horizon None = NoneSafeFrom records horizon low
 abbrev pub FindsTime : List Interval → ℕ → Option ℕ → Type 0
 FindsTime list t (Some k) = (i : Interval) × (slice_get list k ≡ Some i) × IsIn t i
 FindsTime list t None = All (λ i. ¬ (IsIn t i)) list
+
+-- the safe interval that comes after so many records, and before all others
+pub record IsGapAt (records : List Record) (horizon place : ℕ) (i : Interval) : Type 0 where
+  pub safe : IsSafeInterval records horizon i
+  pub place_is : (t : ℕ) → IsIn t i → place_in t records ≡ place
+
+-- no free time up to the horizon comes after exactly so many records
+abbrev pub NoneSafeAt : List Record → ℕ → ℕ → Type 0
+NoneSafeAt records horizon place = (t : ℕ) → t ≤ horizon → covers records t ≡ false → place_in t records ≢ place
+
+abbrev pub AnswersAt : List Record → ℕ → ℕ → Option Interval → Type 0
+AnswersAt records horizon place (Some i) = IsGapAt records horizon place i
+AnswersAt records horizon place None = NoneSafeAt records horizon place

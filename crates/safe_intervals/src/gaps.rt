@@ -1,7 +1,7 @@
 ghost use Rattle.std.specs.Prelude.{◌≡◌, ◌≤◌, length, IfOk};
 ghost use Rattle.calendars.specs.Places.{place_in};
-ghost use Rattle.calendars.specs.Records.{InOrderFrom};
-ghost use Rattle.safe_intervals.specs.Safe.{AreSafeIntervals, AnswersGap, LeavesFirst};
+ghost use Rattle.calendars.specs.Records.{InOrder, InOrderFrom, is_exchange};
+ghost use Rattle.safe_intervals.specs.Safe.{AreSafeIntervals, AnswersGap, AnswersAt, LeavesFirst};
 
 use crate::interval::Interval;
 use calendars::Calendar;
@@ -38,19 +38,77 @@ pub fn gap_after(calendar: &Calendar, begun: usize, from: u32, horizon: u32) -> 
     first_gap(&records[begun..], last.to + 1, horizon)
 }
 
-/// How many records begin at that time or before, where so many are known to. It passes only what else has begun.
-pub fn begun_by(calendar: &Calendar, known: usize, time: u32) -> usize
-    requires { known ≤ place_in time calendar.now }
+/// The maximal free range after the first `place` records and before all others; none exactly where no time up to the
+/// horizon is free there.
+pub fn gap_at(calendar: &Calendar, place: usize, horizon: u32) -> Option<Interval>
+    requires horizon { horizon ≤ 8000 }
+    requires place { place ≤ length calendar.now }
+    ensures { AnswersAt calendar.now horizon place result }
+{
+    let records = calendar.records();
+    let mut from = 0;
+    if place > 0 {
+        let last = records[place - 1].to;
+        if last >= horizon {
+            return None;
+        }
+        from = last + 1;
+    }
+    let mut to = horizon;
+    if place < records.len() {
+        let next = records[place].from;
+        if next <= from {
+            return None;
+        }
+        to = to.min(next - 1);
+    }
+    Some(Interval { from, to })
+}
+
+/// Whether a move from the first cell to the second in the step that begins at that time would be an exchange, where it is
+/// known how many records of each begin by then.
+pub fn crossing_at(from: &Calendar, before: usize, to: &Calendar, begun: usize, time: u32) -> bool
+    requires time { time ≤ 8000 }
+    requires before { before ≡ place_in time from.now }
+    requires begun { begun ≡ place_in time to.now }
+    ensures { result ≡ is_exchange from.now to.now time }
+{
+    let comers = from.records();
+    let leavers = to.records();
+    if begun == 0 || before >= comers.len() {
+        return false;
+    }
+    let leaves = &leavers[begun - 1];
+    let comes = &comers[before];
+    leaves.to == time && comes.from == time + 1 && comes.id == leaves.id
+}
+
+/// How many records begin at that time or before. They are counted from the guess on, so one that is near costs least: the
+/// number for a cell beside at about that time, say.
+pub fn begun_by(calendar: &Calendar, guess: usize, time: u32) -> usize
     ensures place { result ≡ place_in time calendar.now }
     ensures within { result ≤ length calendar.now }
 {
     let records = calendar.records();
+    let known = known_begun(records, guess, time);
     for place in known..records.len() {
         if time < records[place].from {
             return place;
         }
     }
     records.len()
+}
+
+// The guess, or as many fewer as it takes that all of them have begun by that time.
+fn known_begun(records: &[Record], guess: usize, time: u32) -> usize
+    requires { InOrder records.now }
+    ensures { result ≤ place_in time records.now }
+{
+    let mut place = guess.min(records.len());
+    while place > 0 && time < records[place - 1].from {
+        place -= 1;
+    }
+    place
 }
 
 // The first range from `low` on that the records leave.

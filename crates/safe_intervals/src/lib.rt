@@ -8,5 +8,5 @@
 mod gaps;
 mod interval;
 
-pub use gaps::{begun_by, gap_after, intervals, next_gap};
+pub use gaps::{begun_by, crossing_at, gap_after, gap_at, intervals, next_gap};
 pub use interval::{Interval, interval_at};
