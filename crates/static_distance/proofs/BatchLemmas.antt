@@ -8,11 +8,11 @@ use Rattle.std.proofs.lemmas.Nat.Bits.{bit_at-lt}
 use Rattle.std.proofs.lemmas.Option.{same_Some, slice_get_within}
 use Rattle.row_words.specs.Words.{IsSet}
 use Rattle.row_words.proofs.WordLemmas.{set_or_not, set_below}
-use Rattle.static_distance.specs.declared.marking.Batch.{Batch}
-use Rattle.static_distance.specs.declared.marking.Recent.{Recent}
-use Rattle.static_distance.specs.declared.marking.Older.{Older}
+use Rattle.static_distance.specs.declared.batches.Batch.{Batch}
+use Rattle.static_distance.specs.declared.batches.Recent.{Recent}
+use Rattle.static_distance.specs.declared.batches.Older.{Older}
 use Rattle.static_distance.specs.Levels.{gap}
-use Rattle.static_distance.specs.Marks.{choose, told, or_else, no_older, no_recent, older_mark, recent_mark, mark_of, numbers, AreFalling, KeepsOlder, HasJoined}
+use Rattle.static_distance.specs.Batches.{choose, told, or_else, no_older, no_recent, older_mark, recent_mark, mark_of, numbers, AreFalling, KeepsOlder, HasJoined}
 
 -- ---- numbers in a row
 

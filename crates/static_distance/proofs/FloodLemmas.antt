@@ -5,6 +5,8 @@ use Rattle.std.proofs.lemmas.Option.{slice_get_within, same_Some, none-some}
 use Rattle.fleet_base.specs.declared.grid.Cell.{Cell}
 use Rattle.fleet_base.specs.declared.grid.Side.{Side}
 use Rattle.fleet_base.specs.declared.grid.Side.TheVariants.{Up, Left, Right, Down}
+use Rattle.std.specs.Prelude.{Vec}
+use Rattle.std.specs.Global.{Global}
 use Rattle.fleet_base.specs.Terrain.{Terrain, IsOpen, IsAt, IsBeside}
 use Rattle.fleet_base.proofs.TrafficLemmas.{same_cells}
 use Rattle.row_words.specs.Words.{IsSet, Flows, begin, rise, fall, IsFilled}
@@ -41,14 +43,14 @@ none_stand g known words spans c are empty stands =
     none-some listed.1 (rw empty at listed.2)
 
 -- where no cell of this level waits, the next level is this one
-pub risen_spans : (g : Terrain) (old : Distances) (here next : Waiting) → AreSpans g old → old.here.spans.items ≡ [] → here ≡ old.next → next ≡ old.here
+pub risen_spans : (g : Terrain) (old : Distances) (here next : Waiting) → AreSpans g old → old.here.spans.items ≡ [] → here.words ≡ old.next.words → next.words ≡ old.here.words
     → IsFlood g (flood_of g old) → IsFlood g (flood_of g (record old { level = old.level + 2; here = here; next = next }))
 risen_spans g old here next are empty here_is next_is is =
     risen_flood g (flood_of g old) (flood_of g (record old { level = old.level + 2; here = here; next = next })) is
     (λ c stands. none_stand g old.known old.here.words.items old.here.spans.items c are.here_listed empty stands) refl refl refl refl
-    (λ c stands. subst (λ (w : Waiting). Stands g old.known w.words.items c) (sym here_is) stands)
-    (λ c stands. subst (λ (w : Waiting). Stands g old.known w.words.items c) here_is stands)
-    (λ c stands. none_stand g old.known old.here.words.items old.here.spans.items c are.here_listed empty (subst (λ (w : Waiting). Stands g old.known w.words.items c) next_is stands))
+    (λ c stands. subst (λ (w : Vec ℕ Global). Stands g old.known w.items c) (sym here_is) stands)
+    (λ c stands. subst (λ (w : Vec ℕ Global). Stands g old.known w.items c) here_is stands)
+    (λ c stands. none_stand g old.known old.here.words.items old.here.spans.items c are.here_listed empty (subst (λ (w : Vec ℕ Global). Stands g old.known w.items c) next_is stands))
 
 -- Cells side by side in a span.
 right_of : (g : Terrain) (s : Span) (i : ℕ) (c d : Cell) → IsCellAt g s i c → IsCellAt g s (i + 1) d → IsBeside g Right c d

@@ -4,9 +4,10 @@ pub mod SpreadLemmas
 pub mod FloodLemmas
 pub mod AimLemmas
 pub mod TakeLemmas
+pub mod OrderLemmas
 pub mod SpanLemmas
 pub mod ShiftLemmas
 pub mod BatchLemmas
-pub mod MarkListLemmas
+pub mod BatchListLemmas
 pub mod MarkLemmas
 pub mod SideLemmas

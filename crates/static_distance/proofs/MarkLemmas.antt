@@ -8,7 +8,7 @@ use Rattle.fleet_base.specs.declared.grid.Cell.{Cell}
 use Rattle.fleet_base.specs.Terrain.{Terrain}
 use Rattle.fleet_base.proofs.TrafficLemmas.{same_cells}
 use Rattle.row_words.specs.Words.{IsSet}
-use Rattle.row_words.proofs.WordLemmas.{set_below, set_or_not, some_set}
+use Rattle.row_words.proofs.WordLemmas.{set_below, set_or_not, some_set, more_is_greater}
 use Rattle.static_distance.specs.declared.distances.Distances.{Distances}
 use Rattle.static_distance.specs.declared.span.Span.{Span}
 use Rattle.static_distance.specs.Levels.{IsCounted, gap, apart, uncounted}
@@ -73,6 +73,47 @@ fewer_uncounted (suc m ∷ old) (zero ∷ new) (suc place) k count kept none som
   | inr free ↦ (let bad : suc m ≡ 0 = same_Some (suc m) 0 free in omega arith)
 ])
 
+-- The cells of a word weren't counted before, and they and no others are marked.
+module _ (word first : ℕ) (old new : List ℕ) (moves : ℕ → ℕ) (free : AreUncounted old first word)
+    (marked : (i : ℕ) → IsSet word i → slice_get new (first + i) ≡ Some (suc (moves i)))
+    (others : (n : ℕ) → ((i : ℕ) → IsSet word i → n ≢ first + i) → slice_get new n ≡ slice_get old n) where
+  free_or_kept : (n : ℕ) → (slice_get new n ≡ slice_get old n) ⊎ (slice_get old n ≡ Some 0)
+  free_or_kept n = elim (cases_lt n first) [
+    | inl before ↦ inl (others n (λ i set e. omega arith))
+    | inr after ↦ elim (set_or_not word (n - first)) [
+      | inl set ↦ (let place : first + (n - first) ≡ n = omega arith in inr (subst (λ (k : ℕ). slice_get old k ≡ Some 0) place (free (n - first) set)))
+      | inr clear ↦ inl (others n (λ i set e. (let place : i ≡ n - first = omega arith in clear (subst (λ (k : ℕ). IsSet word k) place set))))
+    ]
+  ]
+
+  pub word_fewer : length new ≡ length old → word < 2 ^ 64 → word ≢ 0 → uncounted new + 1 ≤ uncounted old
+  word_fewer count fits some =
+      let place : (i : ℕ) × (i < 64) × IsSet word i = some_set word fits some in
+      fewer_uncounted old new (first + place.0) _ count free_or_kept (free place.0 place.2) (marked place.0 place.2)
+
+-- One of the cells that are left of a word is marked; those that are not left have their marks.
+module _ (word rest one less place : ℕ) (left : (i : ℕ) → IsSet rest i → IsSet word i) (has : IsSet rest place)
+    (one_is : (i : ℕ) → IsSet one i ↔ (i ≡ place)) (less_is : (i : ℕ) → IsSet less i ↔ (IsSet rest i × ¬ (IsSet one i))) where
+  pub one_less : less < rest
+  one_less = more_is_greater less rest place (λ i set. ((less_is i).0 set).0) has (λ set. ((less_is place).0 set).1 ((one_is place).1 refl))
+
+  pub still_left : (i : ℕ) → IsSet less i → IsSet word i
+  still_left i set = left i ((less_is i).0 set).0
+
+  module _ (first value : ℕ) (mark : ℕ → ℕ) (old before new : List ℕ) (inside : first + place < length before) (value_is : value ≡ mark place)
+      (new_is : new ≡ set before (first + place) value) where
+    pub one_marked : ((i : ℕ) → IsSet word i → ¬ (IsSet rest i) → slice_get before (first + i) ≡ Some (mark i))
+        → (i : ℕ) → IsSet word i → ¬ (IsSet less i) → slice_get new (first + i) ≡ Some (mark i)
+    one_marked marked i set gone = ap (λ (xs : List ℕ). slice_get xs (first + i)) new_is ∙ elim (cases_eq i place) [
+      | inl same ↦ mark_set before (first + place) (first + i) value (omega arith) inside ∙ (ap Some value_is ∙ ap (λ (k : ℕ). Some (mark k)) (sym same))
+      | inr other ↦ mark_other before (first + place) (first + i) value (omega arith) ∙ marked i set (λ still. gone ((less_is i).1 (still, λ e. other ((one_is i).0 e))))
+    ]
+
+    pub one_others : ((n : ℕ) → ((i : ℕ) → IsSet word i → n ≢ first + i) → slice_get before n ≡ slice_get old n)
+        → (n : ℕ) → ((i : ℕ) → IsSet word i → n ≢ first + i) → slice_get new n ≡ slice_get old n
+    one_others others n out =
+        ap (λ (xs : List ℕ). slice_get xs n) new_is ∙ (mark_other before (first + place) n value (out place (left place has)) ∙ others n out)
+
 -- The cells of a word from `first` on stand in two words of the list, of 64 cells side by side each.
 module _ (word low high first reach middle : ℕ) (low_is : (j : ℕ) → IsSet low j ↔ ((i : ℕ) × (j ≡ first % 64 + i) × (j < 64) × IsSet word i))
     (high_is : (j : ℕ) → IsSet high j ↔ IsSet word (64 - first % 64 + j)) (old between new : List ℕ)
@@ -99,20 +140,8 @@ module _ (word low high first reach middle : ℕ) (low_is : (j : ℕ) → IsSet 
       ∙ low_others n (λ j set e. (let from = (low_is j).0 set in out from.0 from.3 (omega (arith, from.1))))
 
   -- they weren't counted before
-  module _ (free : AreUncounted old first word) where
-    free_or_kept : (n : ℕ) → (slice_get new n ≡ slice_get old n) ⊎ (slice_get old n ≡ Some 0)
-    free_or_kept n = elim (cases_lt n first) [
-      | inl before ↦ inl (two_others n (λ i set e. omega arith))
-      | inr after ↦ elim (set_or_not word (n - first)) [
-        | inl set ↦ (let place : first + (n - first) ≡ n = omega arith in inr (subst (λ (k : ℕ). slice_get old k ≡ Some 0) place (free (n - first) set)))
-        | inr clear ↦ inl (two_others n (λ i set e. (let place : i ≡ n - first = omega arith in clear (subst (λ (k : ℕ). IsSet word k) place set))))
-      ]
-    ]
-
-    pub two_fewer : length new ≡ length old → word < 2 ^ 64 → word ≢ 0 → uncounted new + 1 ≤ uncounted old
-    two_fewer count fits some =
-        let place : (i : ℕ) × (i < 64) × IsSet word i = some_set word fits some in
-        fewer_uncounted old new (first + place.0) _ count free_or_kept (free place.0 place.2) (two_marked place.0 place.2)
+  pub two_fewer : AreUncounted old first word → length new ≡ length old → word < 2 ^ 64 → word ≢ 0 → uncounted new + 1 ≤ uncounted old
+  two_fewer free = word_fewer word first old new (λ i. reach - gap (first + i) middle) free two_marked two_others
 
 -- ---- the cells of a span are counted
 

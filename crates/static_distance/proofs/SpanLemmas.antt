@@ -326,7 +326,7 @@ module _ (g : Terrain) where
     pub added_listed : AreListed g known old.words.items old.spans.items → AreListed g known new.words.items new.spans.items
     added_listed are = record {
       spans_are = λ j t at. elim (added.spans_are j t at) [
-        | inl earlier ↦ are.spans_are j t earlier
+        | inl earlier ↦ are.spans_are earlier.0 t earlier.1
         | inr same ↦ subst (λ (u : Span). IsSpan g u × (slice_get known u.number ≡ Some 1)) (sym same) (is, known_is)
       ];
       listed = λ n w known_n at some. elim (cases_eq n s.number) [

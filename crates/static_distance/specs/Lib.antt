@@ -1,7 +1,8 @@
 pub mod Distance
 pub mod Levels
+pub mod Batches
+pub mod BatchList
 pub mod Marks
-pub mod MarkList
 pub mod Waiting
 pub mod Spreading
 pub mod Spans

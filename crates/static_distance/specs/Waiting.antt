@@ -14,4 +14,4 @@ pub record HasAdded (old new : Waiting) (span : Span) (word : ℕ) : Type 0 wher
   pub others : (n : ℕ) → n ≢ span.number → slice_get new.words.items n ≡ slice_get old.words.items n
   pub listed : (n : ℕ) → IsListed old.spans.items n → IsListed new.spans.items n
   pub mine_listed : (before : ℕ) → slice_get old.words.items span.number ≡ Some before → (before ≢ 0) ⊎ IsListed new.spans.items span.number
-  pub spans_are : (j : ℕ) (s : Span) → slice_get new.spans.items j ≡ Some s → (slice_get old.spans.items j ≡ Some s) ⊎ (s ≡ span)
+  pub spans_are : (j : ℕ) (s : Span) → slice_get new.spans.items j ≡ Some s → ((i : ℕ) × (slice_get old.spans.items i ≡ Some s)) ⊎ (s ≡ span)

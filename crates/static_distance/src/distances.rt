@@ -112,6 +112,9 @@ impl Distances {
         ensures goal { self.new.goal ≡ self.old.goal }
         ensures room { room self.new ≡ room self.old }
     {
+        if !grid.is_open(cell) {
+            return Ok(None);
+        }
         match self.marks.moves(cell.0) {
             Some(moves) => Ok(Some(moves)),
             None => {
@@ -137,25 +140,26 @@ impl Distances {
         ensures goal { self.new.goal ≡ self.old.goal }
         ensures room { room self.new ≡ room self.old }
     {
+        if !grid.is_open(cell) {
+            return Ok(None);
+        }
         match self.marks.moves(cell.0) {
             Some(moves) => Ok(Some(moves)),
             None => self.count_to(grid, cell, place),
         }
     }
 
-    // Counts moves until the cell has them, and tells them.
+    // Counts moves until an open cell has them, and tells them.
     fn count_to(&mut self, grid: &Grid, cell: Cell, place: Place) -> Result<Option<u32>, Memory>
         requires aimed { IsAimed grid.now self.old }
         requires cell { cell.0 < length grid.now.cells }
         requires place { IsPlaceOf grid.now cell place }
+        requires opens { IsOpen grid.now cell }
         ensures distance { IfOk result (AnswersDistance grid.now self.old.goal cell) }
         ensures aimed { OnOk result (IsAimed grid.now self.new) }
         ensures goal { self.new.goal ≡ self.old.goal }
         ensures room { room self.new ≡ room self.old }
     {
-        if !grid.is_open(cell) {
-            return Ok(None);
-        }
         while self.is_free(grid, cell, place) {
             if !self.advance(grid)? {
                 return Ok(None);
@@ -245,6 +249,8 @@ impl Distances {
             return;
         }
         std::mem::swap(&mut self.here, &mut self.next);
+        // They were added from far to near. Taken so again, each is taken once on this level.
+        self.here.turn();
         self.level += 2;
     }
 
@@ -282,7 +288,7 @@ impl Distances {
             return Ok(());
         }
         if closer {
-            self.here.add(span, entered)?;
+            self.here.add_after_farther(span, entered, self.toward)?;
         } else {
             self.next.add(span, entered)?;
         }

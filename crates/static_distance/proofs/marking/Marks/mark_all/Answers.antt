@@ -1,19 +1,25 @@
-use Rattle.std.proofs.Common.{◌≡◌, ℕ, suc, ◌+◌, ◌-◌, Some, arith, ap, ◌∙◌}
+use Rattle.std.proofs.Common.{◌≡◌, ℕ, ◌+◌, ◌-◌, Bool, true, List, length, sym, ap, ◌∙◌}
+use Rattle.std.proofs.lemmas.Option.{slice_get_within}
 use Rattle.static_distance.specs.Levels.{gap}
-use Rattle.static_distance.proofs.MarkLemmas.{two_marked, two_fewer}
+use Rattle.static_distance.specs.Marks.{marks_in}
+use Rattle.static_distance.proofs.MarkLemmas.{word_fewer}
 use Rattle.static_distance.proofs.marking.Marks.mark_all.Goals as goal
 
-pub returns-clause-marked : goal.returns-clause-marked
-returns-clause-marked c = λ i k set moves.
-    (let middle = c.args.first - c.args.column + c.args.toward in
-    let marked = two_marked c.args.word c.raised_by.result c.lowered_by.result c.args.first c.args.reach middle c.raised_by.ensures c.lowered_by.ensures
-    c.args.self.now c.add.new.self c.add-2.new.self c.in_ok-add.ensures.marked c.in_ok-add.ensures.others c.in_ok-add-2.ensures.marked c.in_ok-add-2.ensures.others i set in
-    let value : c.args.reach - gap (c.args.first + i) middle ≡ k = omega arith in
-    marked ∙ ap (λ (n : ℕ). Some (suc n)) value)
+pub returns-then-not-self-clause-marked : goal.returns-then-not-self-clause-marked
+returns-then-not-self-clause-marked c = rw c.if-not-self.true c.mark_all.ensures.marked
+
+-- where there are few cells the list has the marks
+in_list : (few : Bool) (listed batched marks : List ℕ) → few ≡ true → marks_in few listed batched ≡ marks → listed ≡ marks
+in_list few listed batched marks is are = ap (λ (b : Bool). marks_in b listed batched) (sym is) ∙ are
+
+pub mark_each-requires-clause-inside : goal.mark_each-requires-clause-inside
+mark_each-requires-clause-inside c = λ i set.
+    (let same = in_list _ c.self.inside.by_cell _ _ c.if-not-self.false c.self.view_is in
+    slice_get_within c.self.inside.by_cell (c.args.first + i) 0 (rw same (c.requires.free i set)))
 
 pub returns-clause-fewer : goal.returns-clause-fewer
 returns-clause-fewer c = λ some.
-    (let middle = c.args.first - c.args.column + c.args.toward in
-    two_fewer c.args.word c.raised_by.result c.lowered_by.result c.args.first c.args.reach middle c.raised_by.ensures c.lowered_by.ensures
-    c.args.self.now c.add.new.self c.add-2.new.self c.in_ok-add.ensures.marked c.in_ok-add.ensures.others c.in_ok-add-2.ensures.marked c.in_ok-add-2.ensures.others
-    c.requires.free (c.add-2.ensures.count ∙ c.add.ensures.count) c.ranges.word.fits some)
+    (let same = in_list _ c.self.inside.by_cell _ _ c.if-not-self.false c.self.view_is in
+    let fewer = word_fewer c.args.word c.args.first c.args.self.now c.mark_each.new.marks (λ i. c.args.reach - gap (c.args.column + i) c.args.toward)
+    c.requires.free c.mark_each.ensures.marked (rw same at c.mark_each.ensures.others) (c.mark_each.ensures.count ∙ ap length same) c.ranges.word.fits some in
+    rw c.if-not-self.false fewer)

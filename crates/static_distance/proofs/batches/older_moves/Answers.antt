@@ -1,7 +1,7 @@
 use Rattle.std.proofs.Common.{◌≡◌, ◌-◌, suc, arith, sym, ◌∙◌}
 use Rattle.std.proofs.lemmas.Bool.{false≢true}
 use Rattle.static_distance.proofs.BatchLemmas.{older_passed}
-use Rattle.static_distance.proofs.marking.older_moves.Goals as goal
+use Rattle.static_distance.proofs.batches.older_moves.Goals as goal
 
 pub loop-at-preserved : goal.loop-at-preserved
 loop-at-preserved c =

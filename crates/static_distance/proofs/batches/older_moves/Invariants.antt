@@ -1,6 +1,6 @@
 use Rattle.std.proofs.Common.{◌≡◌, ◌≤◌, length}
-use Rattle.static_distance.specs.Marks.{older_mark}
-use Rattle.static_distance.proofs.marking.older_moves.Given as goal
+use Rattle.static_distance.specs.Batches.{older_mark}
+use Rattle.static_distance.proofs.batches.older_moves.Given as goal
 
 abbrev pub invariant-loop-at : goal.invariant-loop-at
 invariant-loop-at l = record {

@@ -5,12 +5,12 @@ use Rattle.std.proofs.lemmas.List.{get_or-set_same, get_or-set_other}
 use Rattle.std.proofs.lemmas.Option.{get_or_from_slice_get, slice_get_within}
 use Rattle.row_words.specs.Words.{IsSet}
 use Rattle.row_words.proofs.WordLemmas.{is_empty, some_set}
-use Rattle.static_distance.specs.declared.marking.Batch.{Batch}
-use Rattle.static_distance.specs.declared.marking.Recent.{Recent}
-use Rattle.static_distance.specs.declared.marking.Older.{Older}
-use Rattle.static_distance.specs.declared.marking.Marks.TheInside.{Inside}
-use Rattle.static_distance.specs.Marks.{told, or_else, no_recent, older_mark, mark_of, recent_mark, numbers, KeepsOlder, HasJoined}
-use Rattle.static_distance.specs.MarkList.{marks_of, AreMarks}
+use Rattle.static_distance.specs.declared.batches.Batch.{Batch}
+use Rattle.static_distance.specs.declared.batches.Recent.{Recent}
+use Rattle.static_distance.specs.declared.batches.Older.{Older}
+use Rattle.static_distance.specs.declared.batches.Batches.TheInside.{Inside}
+use Rattle.static_distance.specs.Batches.{told, or_else, no_recent, older_mark, mark_of, recent_mark, numbers, KeepsOlder, HasJoined}
+use Rattle.static_distance.specs.BatchList.{marks_of, AreMarks}
 use Rattle.static_distance.proofs.BatchLemmas.{numbers_count, numbers_at, has_told, lacks_told, not_begun, has_begun, older_same, IsMarked, slot_marked, list_marked, list_others}
 
 module _ (m : Inside) (value : List ℕ) (view_is : marks_of m ≡ value) (is : AreMarks m) where

@@ -1,5 +1,5 @@
 use Rattle.static_distance.proofs.ShiftLemmas.{set_in_raised}
-use Rattle.static_distance.proofs.marking.raised_by.Goals as goal
+use Rattle.static_distance.proofs.batches.raised_by.Goals as goal
 
 pub returns : goal.returns
 returns c = set_in_raised c.args.word c.args.count

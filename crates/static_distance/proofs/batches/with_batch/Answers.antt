@@ -2,8 +2,8 @@ use Rattle.std.proofs.Common.{◌≡◌, ℕ, suc, length, refl, arith}
 use Rattle.row_words.specs.Words.{IsSet}
 use Rattle.row_words.proofs.WordLemmas.{is_empty}
 use Rattle.static_distance.proofs.BatchLemmas.{newest_joined, newest_replaced, older_kept}
-use Rattle.static_distance.proofs.marking.with_batch.Goals as goal
-use Rattle.static_distance.proofs.marking.with_batch.Goals.{then-recent-eq0-via-then-recent-eq0, then-recent-eq0-via-else-recent-eq0+then-are_alike-2}
+use Rattle.static_distance.proofs.batches.with_batch.Goals as goal
+use Rattle.static_distance.proofs.batches.with_batch.Goals.{then-recent-eq0-via-then-recent-eq0, then-recent-eq0-via-else-recent-eq0+then-are_alike-2}
 
 pub returns-then-recent-eq0-clause-joined : goal.returns-then-recent-eq0-clause-joined
 returns-then-recent-eq0-clause-joined c =

@@ -1,7 +1,7 @@
 use Rattle.std.proofs.Common.{◌+◌, ◌<◌, refl, arith}
 use Rattle.row_words.proofs.WordLemmas.{is_empty, set_below}
 use Rattle.static_distance.proofs.ShiftLemmas.{set_in_lowered}
-use Rattle.static_distance.proofs.marking.lowered_by.Goals as goal
+use Rattle.static_distance.proofs.batches.lowered_by.Goals as goal
 
 pub returns-then-count-lt64 : goal.returns-then-count-lt64
 returns-then-count-lt64 c = set_in_lowered c.args.word c.args.count

@@ -1,7 +1,7 @@
 use Rattle.std.proofs.Common.{ℕ, List, get_or, replicate, ap, sym, ◌∙◌}
 use Rattle.static_distance.proofs.BatchLemmas.{zeros_read, numbers_zero, none_marked}
-use Rattle.static_distance.proofs.MarkListLemmas.{cells_count}
-use Rattle.static_distance.proofs.marking.Marks.clear.Goals as goal
+use Rattle.static_distance.proofs.BatchListLemmas.{cells_count}
+use Rattle.static_distance.proofs.batches.Batches.clear.Goals as goal
 
 pub returns : goal.returns
 returns c =

@@ -1,10 +1,10 @@
 use Rattle.std.proofs.Common.{◌≡◌, ◌<◌, ◌^◌, Some, length, refl, rules, arith, set}
 use Rattle.std.specs.Prelude.{slice_get, vec_len}
 use Rattle.std.proofs.lemmas.Option.{slice_get_read}
-use Rattle.static_distance.specs.Marks.{mark_of, numbers}
-use Rattle.static_distance.proofs.MarkListLemmas.{IsListMarked, slot_inside, first_marked, other_marked, older_there}
-use Rattle.static_distance.proofs.marking.Marks.add.Goals as goal
-use Rattle.static_distance.proofs.marking.Marks.add.Goals.{After-get, After-set, After-index-recent, After-index_mut-2}
+use Rattle.static_distance.specs.Batches.{mark_of, numbers}
+use Rattle.static_distance.proofs.BatchListLemmas.{IsListMarked, slot_inside, first_marked, other_marked, older_there}
+use Rattle.static_distance.proofs.batches.Batches.add.Goals as goal
+use Rattle.static_distance.proofs.batches.Batches.add.Goals.{After-get, After-set, After-index-recent, After-index_mut-2}
 
 pub get-requires : goal.get-requires
 get-requires c =

@@ -1,7 +1,7 @@
 -- The list of the marks of all cells.
 use Rattle.std.specs.Prelude.{◌≡◌, ◌≢◌, ℕ, ◌*◌, ◌≤◌, List, length, get_or}
-use Rattle.static_distance.specs.declared.marking.Marks.TheInside.{Inside}
-use Rattle.static_distance.specs.Marks.{mark_of, numbers, no_recent, AreFalling}
+use Rattle.static_distance.specs.declared.batches.Batches.TheInside.{Inside}
+use Rattle.static_distance.specs.Batches.{mark_of, numbers, no_recent, AreFalling}
 
 abbrev pub marks_of : Inside → List ℕ
 marks_of m = numbers (mark_of m.begun m.recent.items m.older.items) 0 m.cells

@@ -2,10 +2,10 @@ use Rattle.std.proofs.Common.{◌≡◌, ◌/◌, Some, length, rules, arith, sy
 use Rattle.std.specs.Prelude.{slice_get, vec_len}
 use Rattle.std.proofs.lemmas.Bool.{false≢true}
 use Rattle.std.proofs.lemmas.Option.{slice_get_read}
-use Rattle.static_distance.specs.Marks.{older_mark}
-use Rattle.static_distance.proofs.MarkListLemmas.{slot_within, older_within, read_none, read_first, read_newest, read_older, some_told, none_told}
-use Rattle.static_distance.proofs.marking.Marks.moves.Goals as goal
-use Rattle.static_distance.proofs.marking.Marks.moves.Goals.{After-index-recent, After-older_moves}
+use Rattle.static_distance.specs.Batches.{older_mark}
+use Rattle.static_distance.proofs.BatchListLemmas.{slot_within, older_within, read_none, read_first, read_newest, read_older, some_told, none_told}
+use Rattle.static_distance.proofs.batches.Batches.moves.Goals as goal
+use Rattle.static_distance.proofs.batches.Batches.moves.Goals.{After-index-recent, After-older_moves}
 
 pub get-requires : goal.get-requires
 get-requires c = omega (arith, slot_within c.self.inside c.args.self.now c.self.view_is c.self.invariant c.args.cell c.requires, c.self.invariant.begun_fit)
