@@ -2,8 +2,8 @@
 use Rattle.std.proofs.Common.{arith, subst, sym, ap, ◌∙◌, refl, inl, inr, append_assoc}
 use Rattle.std.proofs.lemmas.Bool.{cases_lt, false≢true}
 use Rattle.std.proofs.lemmas.List.{append-nil, reverse-append, length-append, length-replicate}
-use Rattle.std.proofs.lemmas.Option.{slice_get_within, slice_get_cases, same_Some}
-use Rattle.std.specs.Prelude.{◌≡◌, ◌≢◌, ℕ, zero, suc, ◌+◌, ◌-◌, ◌<◌, ◌≤◌, ◌⊎◌, ◌++◌, ◌∷◌, [], false, true, List, Option, Some, IsSome, length, slice_get, replicate, reverse}
+use Rattle.std.proofs.lemmas.Option.{same_Some}
+use Rattle.std.specs.Prelude.{◌≡◌, ℕ, zero, suc, ◌+◌, ◌-◌, ◌≤◌, ◌⊎◌, ◌++◌, ◌∷◌, [], false, true, List, Option, Some, None, IsSome, IfSome, IfNone, length, slice_get, replicate, reverse}
 use Rattle.fleet_base.specs.declared.grid.Cell.{Cell}
 use Rattle.fleet_base.specs.declared.grid.Side.{Side}
 use Rattle.fleet_base.specs.declared.request.Record.{Record}
@@ -25,54 +25,65 @@ use Rattle.sipp_search.specs.Marks.{spots_of, final}
 use Rattle.sipp_search.specs.Progress.{IsBound, IsWithin, IsArrived, HasFinal}
 use Rattle.sipp_search.specs.Running.{IsSound, IsOver}
 use Rattle.sipp_search.specs.Back.{IsOn, IsHopFrom, ReadsOn}
-use Rattle.sipp_search.proofs.Lists.{stands_map, map_stands}
+use Rattle.sipp_search.proofs.Lists.{stands_map}
 use Rattle.sipp_search.proofs.Moves.{IsReached, reached_free, reached_open, wait_until, beside_differs}
-use Rattle.sipp_search.proofs.Moving.{some_of}
+use Rattle.sipp_search.proofs.Chains.{known_some, one_place}
 
 -- What the arena tells of a final state.
 module _ (g : Terrain) (q : Request) (horizon : ℕ) (known : ℕ → Option (List Record)) (size : ℕ) (arena : Arena) (sound : IsSound g q horizon known size arena) where
   spot_stands : (i r : ℕ) (p : Spot) → slice_get arena.states.items i ≡ Some (final p r) → slice_get (spots_of arena.states.items) i ≡ Some p
   spot_stands i r p at = stands_map (λ (z : State). z.spot) arena.states.items i (final p r) at
 
-  pub final_known : (i r : ℕ) (p : Spot) (c : Cell) → slice_get arena.states.items i ≡ Some (final p r) → p.cell ≡ c → IsSome (known c.0) × (c.0 < size)
+  pub final_known : (i r : ℕ) (p : Spot) (c : Cell) → slice_get arena.states.items i ≡ Some (final p r) → p.cell ≡ c → IsSome (known c.0)
   final_known i r p c at same =
-      let there = sound.arranged.placed i p (spot_stands i r p at) in
-      let block = sound.arranged.block p.cell there.0 there.1 in
+      let of = sound.arranged.each i p (spot_stands i r p at) in
       let number : p.cell.0 ≡ c.0 = ap (λ (z : Cell). z.0) same in
-      let within : p.cell.0 < length arena.firsts = slice_get_within arena.firsts p.cell.0 (suc there.0) there.1 in
-      (rw (← number) (some_of (known p.cell.0) block.records block.known_is), omega (arith, sound.count))
+      rw (← number) (known_some (known p.cell.0) of.records of.known_is)
 
-  -- an untouched cell has no state
-  pub none_untouched : (c : Cell) (t : ℕ) → slice_get arena.firsts c.0 ≡ Some 0 → HasFinal arena.states.items c t → ⊥
-  none_untouched c t untouched has =
-      let there = sound.arranged.placed has.place has.spot (spot_stands has.place has.arrival has.spot has.stands) in
-      let here : slice_get arena.firsts c.0 ≡ Some (suc there.0) = subst (λ (z : Cell). slice_get arena.firsts z.0 ≡ Some (suc there.0)) has.cell_is there.1 in
-      let bad : 0 ≡ suc there.0 = same_Some 0 (suc there.0) (sym untouched ∙ here) in
-      omega arith
+  -- of the states of a cell one holds the time
+  pub alone_final : (i : ℕ) (s : State) (c : Cell) (t : ℕ) → slice_get arena.states.items i ≡ Some s → s.spot.cell ≡ c → IsIn t s.spot.interval → (has : HasFinal arena.states.items c t)
+      → s ≡ final s.spot has.arrival
+  alone_final i s c t at cell inside has =
+      let stands : slice_get (spots_of arena.states.items) i ≡ Some s.spot = stands_map (λ (z : State). z.spot) arena.states.items i s at in
+      let place : has.place ≡ i =
+      one_place g q.goal horizon known (spots_of arena.states.items) arena.newest has.place i has.spot s.spot t sound.arranged (spot_stands has.place has.arrival has.spot has.stands) stands
+      (has.cell_is ∙ sym cell) has.holds inside in
+      let here : slice_get arena.states.items i ≡ Some (final has.spot has.arrival) = subst (λ (k : ℕ). slice_get arena.states.items k ≡ Some (final has.spot has.arrival)) place has.stands in
+      let same : s ≡ final has.spot has.arrival = same_Some s (final has.spot has.arrival) (sym at ∙ here) in
+      same ∙ ap (λ (z : Spot). final z has.arrival) (sym (ap (λ (z : State). z.spot) same))
 
-  -- none of the block holds the time
-  pub none_in_block : (c : Cell) (t first j : ℕ) → slice_get arena.firsts c.0 ≡ Some (suc first) → first ≤ j
-      → ((s : State) → slice_get arena.states.items j ≡ Some s → s.spot.cell ≢ c)
-      → ((i r : ℕ) (p : Spot) → first ≤ i → i < j → slice_get arena.states.items i ≡ Some (final p r) → IsIn t p.interval → r ≤ t → ⊥)
-      → HasFinal arena.states.items c t → ⊥
-  none_in_block c t first j touched run no_more none has =
-      let block = sound.arranged.block c first touched in
-      let alone = block.alone has.place has.spot (spot_stands has.place has.arrival has.spot has.stands) has.cell_is in
-      let place : has.place ≡ first + alone.0 = alone.2 in
-      elim (cases_lt has.place j) [
-        | inl before ↦ none has.place has.arrival has.spot (omega arith) before has.stands has.holds has.early
-        | inr past ↦
-            let e : first + (j - first) ≡ j = omega arith in
-            let within : alone.0 < length block.intervals = slice_get_within block.intervals alone.0 alone.1 alone.3 in
-            elim (slice_get_cases block.intervals (j - first)).1 [
-              | inl there ↦
-                  let spot : Spot = record { cell = c; interval = there.0; left = block.left } in
-                  let stands : slice_get (spots_of arena.states.items) j ≡ Some spot = rw e at (block.each (j - first) there.0 there.2) in
-                  let state = map_stands (λ (z : State). z.spot) arena.states.items j spot stands in
-                  no_more state.0 state.1 (ap (λ (z : Spot). z.cell) state.2)
-              | inr over ↦ omega (arith, over.0)
-            ]
-      ]
+-- a cell that has no state for the time has no final one
+pub none_final : (states : List State) (c : Cell) (t : ℕ) → ((i : ℕ) (p : Spot) → slice_get (spots_of states) i ≡ Some p → p.cell ≡ c → IsIn t p.interval → ⊥) → HasFinal states c t → ⊥
+none_final states c t none has =
+    none has.place has.spot (stands_map (λ (z : State). z.spot) states has.place (final has.spot has.arrival) has.stands) has.cell_is has.holds
+
+pub none_holds : (o : Option ℕ) (P : Type 0) → P → IfNone o P
+none_holds (Some n) P holds = tt
+none_holds None P holds = holds
+
+-- what the state that holds the time tells of the cell
+pub arrival_some : (states : List State) (c : Cell) (t i : ℕ) (s : State) (o : Option ℕ) → slice_get states i ≡ Some s → s.spot.cell ≡ c
+    → IfSome o (λ r. (s ≡ final s.spot r) × IsIn t s.spot.interval × (r ≤ t)) → IfSome o (λ r. (has : HasFinal states c t) × (has.arrival ≡ r))
+arrival_some states c t i s None at cell told = tt
+arrival_some states c t i s (Some r) at cell told = (
+  record {
+    place = i;
+    spot = s.spot;
+    arrival = r;
+    stands = at ∙ ap (λ (z : State). Some z) told.0;
+    cell_is = cell;
+    holds = told.1;
+    early = told.2;
+  },
+  refl,
+)
+
+pub arrival_none : (g : Terrain) (q : Request) (horizon : ℕ) (arena : Arena) (c : Cell) (t i : ℕ) (s : State) (o : Option ℕ) → slice_get arena.states.items i ≡ Some s → s.spot.cell ≡ c
+    → IsIn t s.spot.interval → IfNone o ((r : ℕ) → s ≡ final s.spot r → IsIn t s.spot.interval → r ≤ t → ⊥)
+    → IfNone o ((known : ℕ → Option (List Record)) (size : ℕ) → IsSound g q horizon known size arena → HasFinal arena.states.items c t → ⊥)
+arrival_none g q horizon arena c t i s (Some r) at cell inside none = tt
+arrival_none g q horizon arena c t i s None at cell inside none = λ known size sound has.
+    none has.arrival (alone_final g q horizon known size arena sound i s c t at cell inside has) inside has.early
 
 -- How cells are reached.
 module _ (g : Terrain) (q : Request) (a : Assignment) where

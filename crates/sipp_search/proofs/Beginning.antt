@@ -1,28 +1,30 @@
 -- The beginning of a search: nothing is seen but the start.
-use Rattle.std.proofs.Common.{arith, subst, sym, ap, ◌∙◌, refl, inl, inr, set}
-use Rattle.std.proofs.lemmas.Bool.{cases_lt}
-use Rattle.std.proofs.lemmas.Option.{slice_get_within, slice_get_cases, same_Some, none-some}
-use Rattle.std.specs.Prelude.{◌≡◌, ◌≢◌, ℕ, zero, suc, ◌+◌, ◌-◌, ◌<◌, ◌≤◌, ◌++◌, [], false, List, Option, Some, length, slice_get, replicate}
+use Rattle.std.proofs.Common.{arith, subst, sym, ap, ◌∙◌, inl, inr, set}
+use Rattle.std.proofs.lemmas.Option.{same_Some, none-some}
+use Rattle.std.specs.Prelude.{◌≡◌, ℕ, zero, suc, ◌+◌, ◌<◌, ◌≤◌, ◌++◌, ◌∷◌, [], false, List, Option, Some, IsSome, slice_get, replicate}
 use Rattle.fleet_base.specs.declared.grid.Cell.{Cell}
 use Rattle.fleet_base.specs.declared.request.Record.{Record}
 use Rattle.fleet_base.specs.declared.request.Request.{Request}
 use Rattle.fleet_base.specs.Terrain.{Terrain}
 use Rattle.fleet_base.specs.Reach.{Reached, begin}
-use Rattle.calendars.specs.Records.{covers}
+use Rattle.calendars.specs.Places.{place_in}
+use Rattle.calendars.specs.Records.{covers, InOrder}
 use Rattle.calendars.specs.Assignments.{Assignment, Agrees, traffic_by}
-use Rattle.safe_intervals.specs.Safe.{IsIn, IsSafeInterval}
+use Rattle.safe_intervals.specs.declared.interval.Interval.{Interval}
+use Rattle.safe_intervals.specs.Safe.{IsIn, IsSafeInterval, IsGapAt, NoneSafeAt}
 use Rattle.static_distance.specs.Distance.{IsDistance, move}
 use Rattle.static_distance.proofs.Ways.{way_open, distance_once, goal_distance}
 use Rattle.sipp_search.specs.declared.states.Spot.{Spot}
 use Rattle.sipp_search.specs.declared.states.State.{State}
 use Rattle.sipp_search.specs.declared.states.Mark.TheVariants.{Unseen, Queued, Final}
-use Rattle.sipp_search.specs.Marks.{spots_of, queued, final, offered}
-use Rattle.sipp_search.specs.Arena.{IsBlock, HasTimes, AreWhole, IsArena}
+use Rattle.sipp_search.specs.Marks.{spots_of, unseen, queued, final, offered}
+use Rattle.sipp_search.specs.Arena.{IsOfArena, IsArena}
 use Rattle.sipp_search.specs.Progress.{IsBound, AreSpots, IsUnderWay, StartIsSeen, IsQueuedWell}
 use Rattle.sipp_search.specs.Running.{HasGrown}
-use Rattle.sipp_search.proofs.Lists.{append_cases, stands_map, map_stands}
+use Rattle.sipp_search.proofs.Lists.{append_cases, stands_map}
+use Rattle.sipp_search.proofs.Chains.{records_known}
+use Rattle.sipp_search.proofs.Places.{since_gap}
 use Rattle.sipp_search.proofs.Marking.{AreUnseen, offered_improves, offered_well, offered_seen}
-use Rattle.sipp_search.proofs.Blocks.{block_holds, of_arena}
 
 -- static distances are such as a search needs
 pub bound_of : (g : Terrain) (goal : Cell) → IsBound g goal
@@ -47,6 +49,17 @@ unseen_not_final states none i r p at = let bad : Final r ≡ Unseen = none i (f
 unseen_not_queued : (states : List State) → AreUnseen states → (i r : ℕ) (p : Spot) → slice_get states i ≡ Some (queued p r) → ⊥
 unseen_not_queued states none i r p at = let bad : Queued r ≡ Unseen = none i (queued p r) at in cc
 
+-- the spot from which a search begins
+abbrev pub start_spot : Request → Interval → ℕ → ℕ → Spot
+start_spot q i left place = record { cell = q.start; interval = i; left = left; place = place; older = 0 }
+
+pub start_of_arena : (g : Terrain) (q : Request) (horizon : ℕ) (known : ℕ → Option (List Record)) (i : Interval) (left place : ℕ) → IsSome (known q.start.0)
+    → ((records : List Record) → known q.start.0 ≡ Some records → IsSafeInterval records horizon i) → IsDistance g q.goal q.start left
+    → ((records : List Record) (t : ℕ) → known q.start.0 ≡ Some records → IsIn t i → place_in t records ≡ place) → IsOfArena g q.goal horizon known (start_spot q i left place)
+start_of_arena g q horizon known i left place is safe distance places =
+    let there = records_known (known q.start.0) is in
+    record { records = there.0; known_is = there.1; safe = safe there.0 there.1; distance = distance; place_is = λ t inside. places there.0 t there.1 inside }
+
 module _ (g : Terrain) (q : Request) (horizon : ℕ) (a : Assignment) where
   -- where the start can't be left, nothing need be seen
   pub idle_way : (states : List State) (x : ℕ) → AreUnseen states → StartIsSeen g q horizon a states → IsUnderWay g q horizon a states 0 x
@@ -61,15 +74,23 @@ module _ (g : Terrain) (q : Request) (horizon : ℕ) (a : Assignment) where
   start_too_far states left is far k free within in_time =
       absurd (let low : left ≤ within.left = is.least within.left within.way in omega (arith, within.below))
 
-  pub start_taken : (states : List State) (known : ℕ → Option (List Record)) (floor first : ℕ) → floor ≡ 0 → Agrees a known → IsBlock g q.goal horizon known (spots_of states) q.start first
-      → HasTimes g q.goal horizon known floor (spots_of states) q.start first
-      → ((i : ℕ) (p : Spot) → slice_get (spots_of states) i ≡ Some p → p.cell ≡ q.start → IsIn q.depart p.interval → ⊥) → StartIsSeen g q horizon a states
-  start_taken states known floor first zero_is agrees block times none k free within in_time =
-      let records : a q.start.0 ≡ block.records = agrees q.start.0 block.records block.known_is in
-      let here : covers block.records q.depart ≡ false = rw records at free in
-      let holds = block_holds g q.goal horizon known (spots_of states) floor q.start first q.depart block times (omega arith) (omega arith) here in
-      let spot : Spot = record { cell = q.start; interval = holds.1; left = block.left } in
-      absurd (none (first + holds.0) spot (block.each holds.0 holds.1 holds.2) refl holds.3)
+  pub start_too_late : (states : List State) → horizon < q.depart → StartIsSeen g q horizon a states
+  start_too_late states late k free within in_time = absurd (omega arith)
+
+  pub start_taken : (states : List State) (known : ℕ → Option (List Record)) (records : List Record) → Agrees a known → known q.start.0 ≡ Some records
+      → ¬ (covers records q.depart ≡ false) → StartIsSeen g q horizon a states
+  start_taken states known records agrees is taken k free within in_time =
+      absurd (taken (subst (λ (rs : List Record). covers rs q.depart ≡ false) (agrees q.start.0 records is) free))
+
+  -- the start is taken at the departure where no safe interval, or a later one, comes after as many records
+  pub gap_missed : (states : List State) (known : ℕ → Option (List Record)) (records : List Record) (place : ℕ) → Agrees a known → known q.start.0 ≡ Some records
+      → NoneSafeAt records horizon place → place_in q.depart records ≡ place → q.depart ≤ horizon → StartIsSeen g q horizon a states
+  gap_missed states known records place agrees is none place_is within = start_taken states known records agrees is (λ free. none q.depart within free place_is)
+
+  pub gap_later : (states : List State) (known : ℕ → Option (List Record)) (records : List Record) (place : ℕ) (i : Interval) → Agrees a known → known q.start.0 ≡ Some records
+      → InOrder records → IsGapAt records horizon place i → place_in q.depart records ≡ place → q.depart < i.from → StartIsSeen g q horizon a states
+  gap_later states known records place i agrees is order gap place_is early =
+      start_taken states known records agrees is (λ free. (let since : i.from ≤ q.depart = since_gap records horizon place i order gap q.depart free place_is in omega arith))
 
   -- the start is queued at the departure
   pub begun_way : (states : List State) (x j : ℕ) (s : State) → IsBound g q.goal → AreUnseen states → AreSpots g q horizon a (spots_of states) → slice_get states j ≡ Some s
@@ -95,50 +116,36 @@ module _ (g : Terrain) (q : Request) (horizon : ℕ) (a : Assignment) where
             in_time = in_time;
           }
 
--- none of the block's spots holds the time
-pub none_holds : (g : Terrain) (goal : Cell) (horizon : ℕ) (known : ℕ → Option (List Record)) (states : List State) (c : Cell) (first t j : ℕ) → first ≤ j
-    → ((s : State) → slice_get states j ≡ Some s → s.spot.cell ≢ c)
-    → ((i : ℕ) (p : Spot) → first ≤ i → i < j → slice_get (spots_of states) i ≡ Some p → IsIn t p.interval → ⊥)
-    → IsBlock g goal horizon known (spots_of states) c first → (i : ℕ) (p : Spot) → slice_get (spots_of states) i ≡ Some p → p.cell ≡ c → IsIn t p.interval → ⊥
-none_holds g goal horizon known states c first t j run no_more none block i p at cell inside =
-    let alone = block.alone i p at cell in
-    elim (cases_lt i j) [
-      | inl before ↦ none i p (omega (arith, alone.2)) before at inside
-      | inr past ↦
-          let e : first + (j - first) ≡ j = omega arith in
-          let within : alone.0 < length block.intervals = slice_get_within block.intervals alone.0 alone.1 alone.3 in
-          elim (slice_get_cases block.intervals (j - first)).1 [
-            | inl there ↦
-                let spot : Spot = record { cell = c; interval = there.0; left = block.left } in
-                let stands : slice_get (spots_of states) j ≡ Some spot = rw e at (block.each (j - first) there.0 there.2) in
-                let state = map_stands (λ (z : State). z.spot) states j spot stands in
-                no_more state.0 state.1 (ap (λ (z : Spot). z.cell) state.2)
-            | inr over ↦ omega (arith, over.0, alone.2)
-          ]
-    ]
+-- Nothing is entered.
+zeros : (n c k : ℕ) → slice_get (replicate n 0) c ≡ Some k → k ≡ 0
+zeros zero c k at = absurd (none-some k at)
+zeros (suc n) zero k at = sym (same_Some 0 k at)
+zeros (suc n) (suc c) k at = zeros n c k at
 
--- Nothing is touched.
-zeros : (n c f : ℕ) → slice_get (replicate n 0) c ≡ Some (suc f) → ⊥
-zeros zero c f at = none-some (suc f) at
-zeros (suc n) zero f at = let bad : 0 ≡ suc f = same_Some 0 (suc f) at in omega arith
-zeros (suc n) (suc c) f at = zeros n c f at
-
-pub empty_arena_right : (g : Terrain) (goal : Cell) (horizon : ℕ) (known : ℕ → Option (List Record)) (n : ℕ) (spots : List Spot) (firsts : List ℕ) → spots ≡ [] → firsts ≡ replicate n 0
-    → IsArena g goal horizon known spots firsts
-empty_arena_right g goal horizon known n spots firsts none untouched = record {
-  block = λ c first at. absurd (zeros n c.0 first (rw untouched at at));
-  placed = λ j p at. absurd (none-some p (rw none at at));
-  counted = λ lists are. (let e : length spots ≡ 0 = ap length none in omega arith);
+pub empty_arena_right : (g : Terrain) (goal : Cell) (horizon : ℕ) (known : ℕ → Option (List Record)) (n : ℕ) (spots : List Spot) (newest : List ℕ) → spots ≡ [] → newest ≡ replicate n 0
+    → IsArena g goal horizon known spots newest
+empty_arena_right g goal horizon known n spots newest none empty = record {
+  each = λ j p at. absurd (none-some p (rw none at at));
+  once = λ i j p r at at' cells intervals. absurd (none-some p (rw none at at));
+  chained = record {
+    last = λ c k at. record {
+      none_later = λ i p low here cell. absurd (none-some p (rw none at here));
+      stands = λ i is. (let nothing : k ≡ 0 = zeros n c.0 k (rw empty at at) in absurd (omega arith));
+    };
+    before = λ j p at. absurd (none-some p (rw none at at));
+  };
 }
 
-pub whole_nothing : (g : Terrain) (goal : Cell) (horizon : ℕ) (known : ℕ → Option (List Record)) (floor n : ℕ) (spots : List Spot) (firsts : List ℕ) → firsts ≡ replicate n 0
-    → AreWhole g goal horizon known floor spots firsts
-whole_nothing g goal horizon known floor n spots firsts untouched c first at = absurd (zeros n c.0 first (rw untouched at at))
+-- the first state of all
+pub first_state : (states states' : List State) (s : State) → states ≡ [] → states' ≡ states ++ s ∷ [] → states' ≡ s ∷ []
+first_state states states' s none is = rw none at is
 
--- a spot of the start has the start's distance
-pub left_at_start : (g : Terrain) (q : Request) (horizon : ℕ) (known : ℕ → Option (List Record)) (spots : List Spot) (firsts : List ℕ) (i left : ℕ) (p : Spot) → IsBound g q.goal
-    → IsArena g q.goal horizon known spots firsts → slice_get spots i ≡ Some p → p.cell ≡ q.start → IsDistance g q.goal q.start left → left ≡ p.left
-left_at_start g q horizon known spots firsts i left p bound arena at cell is =
-    let of = of_arena g q.goal horizon known spots firsts i p arena at in
-    let mine : IsDistance g q.goal q.start p.left = subst (λ (z : Cell). IsDistance g q.goal z p.left) cell of.distance in
-    bound.once q.start left p.left is mine
+pub one_unseen : (states : List State) (p : Spot) → states ≡ unseen p ∷ [] → AreUnseen states
+one_unseen states p is k s at = alone k (rw is at at)
+  where
+    alone : (i : ℕ) → slice_get (unseen p ∷ []) i ≡ Some s → s.mark ≡ Unseen
+    alone zero here = sym (ap (λ (z : State). z.mark) (same_Some (unseen p) s here))
+    alone (suc i) here = absurd (none-some s here)
+
+pub no_spot : (states : List State) → states ≡ [] → (i : ℕ) (r : Spot) → slice_get (spots_of states) i ≡ Some r → ⊥
+no_spot states none i r at = none-some r (rw none at at)

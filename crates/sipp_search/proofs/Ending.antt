@@ -20,13 +20,12 @@ use Rattle.sipp_search.specs.declared.states.Arena.{Arena}
 use Rattle.sipp_search.specs.declared.states.Taken.{Taken}
 use Rattle.sipp_search.specs.Marks.{spots_of, queued, final, final_count}
 use Rattle.sipp_search.specs.Answer.{AreListsOf, length_if_known, interval_count}
-use Rattle.sipp_search.specs.Arena.{touched_count}
 use Rattle.sipp_search.specs.Progress.{IsBound, AreSpots, IsUnderWay, Improves}
 use Rattle.sipp_search.specs.Running.{IsSound, KeepsKnown, LoadsAround, SettlesNext, AreAbove, IsOver, EndsAt, Ends, MayEndIn, NeverEndsIn, LoadsFor}
 use Rattle.sipp_search.proofs.Lists.{slice_get-set_at, slice_get-set_other, set_cases}
 use Rattle.sipp_search.proofs.Closing.{EachLeads, complete}
 use Rattle.sipp_search.proofs.Marking.{count-set, count_within, settled_way, spots-set}
-use Rattle.sipp_search.proofs.Blocks.{touched_within}
+use Rattle.sipp_search.proofs.Counts.{spots_counted}
 use Rattle.sipp_search.proofs.Moving.{some_of}
 
 module _ (g : Terrain) (q : Request) (horizon : ℕ) (a : Assignment) where
@@ -69,11 +68,8 @@ pub settled_sound : (g : Terrain) (q : Request) (horizon : ℕ) (known : ℕ →
 settled_sound g q horizon known size old new limit taken sound settles = record {
   paired = ap (λ (z : Queue). z.keys) settles.queue_is;
   bound = ap (λ (z : Queue). z.bound) settles.queue_is ∙ sound.bound;
-  count = rw settles.firsts_are sound.count;
-  arranged = rw (settled_spots old new limit taken settles, settles.firsts_are) sound.arranged;
-  whole = λ c first at records left t is distance late in_time free.
-      (let floor : new.queue.floor ≡ taken.arrival + taken.spot.left = ap (λ (z : Queue). z.floor) settles.queue_is in
-      rw (settled_spots old new limit taken settles) (sound.whole c first (rw settles.firsts_are at at) records left t is distance (omega (arith, settles.rises)) in_time free));
+  count = rw settles.newest_are sound.count;
+  arranged = rw (settled_spots old new limit taken settles, settles.newest_are) sound.arranged;
   aimed = rw settles.distances_are sound.aimed;
   goal_is = rw settles.distances_are sound.goal_is;
   room_is = rw settles.distances_are sound.room_is;
@@ -175,18 +171,11 @@ interval_grows old new lists zero kept = omega arith
 interval_grows old new lists (suc n) kept = omega (arith, length_grows (old n) (new n) (lists n) (kept n), interval_grows old new lists n kept)
 
 pub states_within : (g : Terrain) (q : Request) (horizon : ℕ) (known : ℕ → Option (List Record)) (size : ℕ) (arena : Arena) (lists : ℕ → List Interval)
-    → IsSound g q horizon known size arena → AreListsOf known horizon lists → final_count arena.states.items ≤ interval_count known lists size
-states_within g q horizon known size arena lists sound are =
-    let all : length (spots_of arena.states.items) ≤ touched_count lists 0 arena.firsts = sound.arranged.counted lists are in
-    let touched : touched_count lists 0 arena.firsts + interval_count known lists 0 ≤ interval_count known lists size =
-    touched_within lists known size arena.firsts 0 (omega (arith, sound.count)) (λ c f at. is_known c f at) in
+    → size ≡ length g.cells → IsSound g q horizon known size arena → AreListsOf known horizon lists → final_count arena.states.items ≤ interval_count known lists size
+states_within g q horizon known size arena lists size_is sound are =
+    let all : length (spots_of arena.states.items) ≤ interval_count known lists size =
+    spots_counted g q.goal horizon known lists size (spots_of arena.states.items) size_is sound.arranged.each sound.arranged.once are in
     omega (arith, count_within arena.states.items, length-map arena.states.items (λ (z : State). z.spot))
-  where
-    is_known : (c f : ℕ) → slice_get arena.firsts c ≡ Some (suc f) → IsSome (known (0 + c))
-    is_known c f at =
-        let block = sound.arranged.block (record { 0 = c }) f at in
-        let e : 0 + c ≡ c = omega arith in
-        rw e (some_of (known c) block.records block.known_is)
 
 -- a queued arrival lies in its interval: what holds for every assignment holds for one
 pub queued_inside : (g : Terrain) (q : Request) (horizon : ℕ) (known : ℕ → Option (List Record)) (states : List State) (cursor i r : ℕ) (p : Spot)

@@ -55,12 +55,11 @@ module _ (here there : List Record) (from to : Interval) (since arrival : ℕ) (
             false≢true (sym can.unbarred ∙ here')
       ]
 
+-- The earliest time that there could be.
+module _ (here there : List Record) (from to : Interval) (since arrival : ℕ) (is : arrival ≡ max to.from (since + 1)) where
   -- no move arrives earlier
   pub earliest_least : (t : ℕ) → CanEnter here there from to since t → arrival ≤ t + 1
   earliest_least t can = omega (arith, can.lands.0, can.not_before)
-
-  pub too_late : (arrival ≤ from.to + 1 → arrival ≤ to.to → ⊥) → (t : ℕ) → ¬ (CanEnter here there from to since t)
-  too_late late t can = late (omega (arith, can.lands.0, can.until, can.not_before)) (omega (arith, can.lands, can.not_before))
 
   pub earliest_enters : is_exchange here there (arrival - 1) ≡ false → arrival ≤ from.to + 1 → arrival ≤ to.to → IsEntry here there from to since arrival
   earliest_enters unbarred until inside = record {

@@ -1,9 +1,12 @@
 pub mod Lists
 pub mod Moves
 pub mod Closing
+pub mod Counts
 pub mod Marking
 pub mod Exchanges
 pub mod Blocks
+pub mod Chains
+pub mod Places
 pub mod Visits
 pub mod Moving
 pub mod Staying
@@ -13,4 +16,6 @@ pub mod Beginning
 pub mod Answering
 pub mod Serving
 pub mod Paused
-pub mod Gaps
+pub mod Counted
+pub mod Entering
+pub mod Growing

@@ -16,13 +16,14 @@ use Rattle.safe_intervals.specs.Safe.{IsSafeInterval}
 use Rattle.static_distance.specs.Distance.{IsWay, IsDistance}
 use Rattle.sipp_search.specs.declared.states.Spot.{Spot}
 use Rattle.sipp_search.specs.declared.states.State.{State}
+use Rattle.sipp_search.specs.Arena.{IsOfArena}
 use Rattle.sipp_search.specs.Marks.{spots_of, final}
 use Rattle.sipp_search.specs.Progress.{IsBound, IsWithin, IsArrived, IsUnderWay, Improves}
+use Rattle.sipp_search.specs.Arena.{IsOfArena}
 use Rattle.sipp_search.specs.Visiting.{IsSource, HasLed}
 use Rattle.sipp_search.specs.Running.{HasGrown, KeepsSpots, KeepsKnown, LoadsBeside, LoadsAround}
 use Rattle.sipp_search.proofs.Lists.{stands_left}
-use Rattle.sipp_search.proofs.Marking.{added_improves, added_well, improved_way, leading_way}
-use Rattle.sipp_search.proofs.Blocks.{IsOfArena}
+use Rattle.sipp_search.proofs.Marking.{added_improves, added_well, improved_way, leading_way, improves-refl, improves-trans}
 use Rattle.sipp_search.proofs.Visits.{led_kept}
 
 pub grown_improves : (old new : List State) → HasGrown old new → Improves old new
@@ -65,9 +66,6 @@ HasLedOn g q horizon a states from r side = (c : Cell) → IsBeside g side from.
 module _ (g : Terrain) (q : Request) (horizon : ℕ) (a : Assignment) (states : List State) (from : Spot) (r : ℕ) (side : Side) where
   pub led_only : (to : Cell) → IsBeside g side from.cell to → HasLed g q horizon a states from r to → HasLedOn g q horizon a states from r side
   led_only to beside led c beside' = subst (λ (z : Cell). HasLed g q horizon a states from r z) (beside_once g side from.cell to c beside beside') led
-
-  pub led_nowhere : ((c : Cell) → ¬ (IsBeside g side from.cell c)) → HasLedOn g q horizon a states from r side
-  led_nowhere none c beside = absurd (none c beside)
 
   -- from the cell the goal can't be reached
   pub led_in_vain : (to : Cell) → IsBeside g side from.cell to → ((k : ℕ) → ¬ (IsWay g q.goal to k)) → HasLedOn g q horizon a states from r side
@@ -127,3 +125,49 @@ loads_more g c side old mid new one two n is = elim (two n is) [
   | inl before ↦ one n before
   | inr beside ↦ inr (side, beside.0, beside.1, beside.2)
 ]
+
+pub loads_first : (g : Terrain) (c : Cell) (side : Side) (old new : ℕ → Option (List Record)) → LoadsBeside g side c old new → LoadsAround g c old new
+loads_first g c side old new one = loads_more g c side old old new (λ n is. inl is) one
+
+-- What the moves out of a spot into the last n sides did, as far as it is known in the end.
+pub record HasMade (g : Terrain) (q : Request) (horizon : ℕ) (from : Spot) (r n : ℕ) (known : ℕ → Option (List Record)) (old new : List State) (floor floor' : ℕ) : Type 0 where
+  pub floor_is : floor' ≡ floor
+  pub improves : Improves old new
+  pub led : (a : Assignment) (x : ℕ) → Agrees a known → IsArrived g q a from r → IsUnderWay g q horizon a old floor x
+      → IsUnderWay g q horizon a new floor x × HasLedLast g q horizon a new from r n
+
+module _ (g : Terrain) (q : Request) (horizon : ℕ) (from : Spot) (r : ℕ) where
+  none_led : (a : Assignment) (states : List State) → HasLedLast g q horizon a states from r 0
+  none_led a states s far = absurd (omega (arith, rank_low s))
+
+  pub made_none : (known : ℕ → Option (List Record)) (states : List State) (floor : ℕ) → HasMade g q horizon from r 0 known states states floor floor
+  made_none known states floor = record {
+    floor_is = refl;
+    improves = improves-refl states;
+    led = λ a x agrees arrived way. (way, none_led a states);
+  }
+
+  -- the next side
+  pub made_more : (side : Side) (n : ℕ) (mid known : ℕ → Option (List Record)) (old between new : List State) (floor floor' floor'' : ℕ) → rank_of side + n + 1 ≡ 4
+      → HasMade g q horizon from r n mid old between floor floor' → KeepsKnown mid known → floor'' ≡ floor' → Improves between new
+      → ((a : Assignment) (x : ℕ) → Agrees a known → IsArrived g q a from r → IsUnderWay g q horizon a between floor' x
+      → IsUnderWay g q horizon a new floor' x × HasLedOn g q horizon a new from r side)
+      → HasMade g q horizon from r (n + 1) known old new floor floor''
+  made_more side n mid known old between new floor floor' floor'' rank made kept floor_is better led = record {
+    floor_is = floor_is ∙ made.floor_is;
+    improves = improves-trans old between new made.improves better;
+    led = λ a x agrees arrived way.
+        (let before = made.led a x (agrees_before a mid known kept agrees) arrived way in
+        let step = led a x agrees arrived (subst (λ (m : ℕ). IsUnderWay g q horizon a between m x) (sym made.floor_is) before.0) in (
+          subst (λ (m : ℕ). IsUnderWay g q horizon a new m x) made.floor_is step.0,
+          led_more g q horizon a between new from r n side better rank before.1 step.1,
+        ));
+  }
+
+-- what all four moves of a state that has become final come to
+pub made_all : (g : Terrain) (q : Request) (horizon : ℕ) (a : Assignment) (from : Spot) (r id x : ℕ) (known : ℕ → Option (List Record)) (old new : List State) (floor floor' : ℕ)
+    → HasMade g q horizon from r 4 known old new floor floor' → slice_get old id ≡ Some (final from r) → Agrees a known → IsUnderWay g q horizon a old floor id
+    → IsUnderWay g q horizon a new floor x
+made_all g q horizon a from r id x known old new floor floor' made at agrees way =
+    let both = made.led a id agrees (way.final_well id r from at).arrived way in
+    all_led g q horizon a new floor id x r from both.0 (made.improves.no_less id r from at) both.1

@@ -3,14 +3,14 @@ use Rattle.std.proofs.Common.{arith, subst, sym, ap, ◌∙◌, refl, inl, inr, 
 use Rattle.std.proofs.lemmas.List.{length-set}
 use Rattle.std.proofs.lemmas.Bool.{cases_lt, false≢true}
 use Rattle.std.specs.Bool.{OnTrue}
-use Rattle.std.proofs.lemmas.Option.{slice_get_within, same_Some}
-use Rattle.std.specs.Prelude.{Bool, true, not, ◌≡◌, ℕ, ◌+◌, ◌*◌, ◌<◌, ◌≤◌, ◌⊎◌, false, List, Option, Some, None, IsSome, length, slice_get}
+use Rattle.std.proofs.lemmas.Option.{same_Some}
+use Rattle.std.specs.Prelude.{Bool, true, not, ◌≡◌, ℕ, ◌+◌, ◌*◌, ◌<◌, ◌≤◌, ◌⊎◌, false, List, Option, Some, None, IsSome, IfSome, IfNone, length, slice_get}
 use Rattle.fleet_base.specs.declared.grid.Cell.{Cell}
 use Rattle.fleet_base.specs.declared.grid.Side.{Side}
 use Rattle.fleet_base.specs.declared.request.Record.{Record}
 use Rattle.fleet_base.specs.declared.request.Request.{Request}
 use Rattle.fleet_base.specs.Terrain.{Terrain, IsBeside}
-use Rattle.fleet_base.specs.Reach.{Reached, begin, step, IsArrival}
+use Rattle.fleet_base.specs.Reach.{begin, step}
 use Rattle.fleet_base.specs.Canonical.{IsEarliest, CanPrecede}
 use Rattle.fleet_base.proofs.TrafficLemmas.{same_cells}
 use Rattle.fleet_base.proofs.ReachLemmas.{walk_from_steps, steps_from_walk}
@@ -18,7 +18,7 @@ use Rattle.calendars.specs.Records.{covers, is_exchange}
 use Rattle.calendars.specs.Assignments.{Assignment, Agrees, traffic_by}
 use Rattle.safe_intervals.specs.declared.interval.Interval.{Interval}
 use Rattle.safe_intervals.specs.Safe.{IsIn, IsSafeInterval}
-use Rattle.safe_intervals.proofs.SafeLemmas.{safe_once}
+use Rattle.safe_intervals.proofs.SafeLemmas.{in_one}
 use Rattle.static_distance.specs.Distance.{IsWay, IsDistance, there, move}
 use Rattle.sipp_search.specs.declared.states.Spot.{Spot}
 use Rattle.sipp_search.specs.declared.states.State.{State}
@@ -26,23 +26,29 @@ use Rattle.sipp_search.specs.declared.states.Arena.{Arena}
 use Rattle.sipp_search.specs.declared.ties.Ties.{Ties}
 use Rattle.sipp_search.specs.Marks.{spots_of, queued, final, final_count}
 use Rattle.sipp_search.specs.Answer.{AreListsOf, interval_count}
-use Rattle.sipp_search.specs.Arena.{IsBlock, HasTimes}
-use Rattle.sipp_search.specs.Progress.{IsBound, IsWithin, HasSeen, HasFinal, AreSpots, IsArrived, IsUnderWay, Improves}
-use Rattle.sipp_search.specs.Running.{IsReady, IsSound, KeepsKnown, HasGrown, EndsAt}
-use Rattle.sipp_search.specs.Back.{IsOn, NoneFrom}
+use Rattle.sipp_search.specs.Arena.{IsArena}
+use Rattle.sipp_search.specs.Progress.{IsBound, IsWithin, HasSeen, HasFinal, AreSpots, IsUnderWay}
+use Rattle.sipp_search.specs.Running.{IsReady, IsSound, KeepsKnown, EndsAt}
+use Rattle.sipp_search.specs.Back.{NoneFrom}
 use Rattle.sipp_search.specs.Ties.{IsFirstArrival, IsPaused, IsUnseenAt, AreTies, IsSideBack, IsStepBack}
 use Rattle.sipp_search.proofs.Lists.{stands_map, set_cases}
 use Rattle.sipp_search.proofs.Moves.{IsReached, reached_free, reached_open, wait_until}
 use Rattle.sipp_search.proofs.Closing.{EachLeads, complete, taken_least, final_waits}
 use Rattle.sipp_search.proofs.Ending.{lead_each, states_within, lists_before, interval_grows}
 use Rattle.sipp_search.proofs.Backward.{back_beside, last_step, earliest_of}
-use Rattle.sipp_search.proofs.Moving.{agrees_before, grown_improves, grown_way, some_of}
-use Rattle.sipp_search.proofs.Blocks.{of_arena, spots_right}
+use Rattle.sipp_search.proofs.Moving.{agrees_before, some_of}
+use Rattle.sipp_search.proofs.Blocks.{spots_right}
+use Rattle.sipp_search.proofs.Chains.{sound_known, same_interval}
 
 -- what follows where a truth value is false
 pub on_not : (b : Bool) (P : Type 0) → ((b ≡ true → ⊥) → P) → OnTrue (not b) P
 on_not true P follows = tt
 on_not false P follows = follows (λ e. false≢true e)
+
+-- what follows where a truth value is true
+pub on_true : (b : Bool) (P : Type 0) → (b ≡ true → P) → OnTrue b P
+on_true true P follows = follows refl
+on_true false P follows = tt
 
 -- The moves from the start.
 module _ (g : Terrain) (q : Request) (a : Assignment) where
@@ -56,6 +62,69 @@ module _ (g : Terrain) (q : Request) (a : Assignment) where
             let back = back_beside g q a beside.0 c d beside.1 in
             (way.0 + 1, move back.0 opened back.1 way.1, omega (arith, way.2))
       ]
+
+-- a cell that is reached with a final arrival was seen
+seen_of : (states : List State) (c : Cell) (t : ℕ) → HasFinal states c t → HasSeen states c t
+seen_of states c t has = record {
+  place = has.place;
+  spot = has.spot;
+  arrival = has.arrival;
+  stands = inr has.stands;
+  cell_is = has.cell_is;
+  holds = has.holds;
+  early = has.early;
+}
+
+pub spot_seen : (states : List State) (c : Cell) (t : ℕ) (seen : HasSeen states c t) → slice_get (spots_of states) seen.place ≡ Some seen.spot
+spot_seen states c t seen = elim seen.stands [
+  | inl at ↦ stands_map (λ (z : State). z.spot) states seen.place (queued seen.spot seen.arrival) at
+  | inr at ↦ stands_map (λ (z : State). z.spot) states seen.place (final seen.spot seen.arrival) at
+]
+
+-- What the state of a cell that holds a time tells of it.
+module _ (states : List State) (c : Cell) (t j : ℕ) (s : State) (at : slice_get states j ≡ Some s) (cell : s.spot.cell ≡ c) (inside : IsIn t s.spot.interval) where
+  seen_here : (r : ℕ) → (s ≡ queued s.spot r) ⊎ (s ≡ final s.spot r) → r ≤ t → HasSeen states c t
+  seen_here r marks early = record {
+    place = j;
+    spot = s.spot;
+    arrival = r;
+    stands = elim marks [ inl is ↦ inl (at ∙ ap (λ (z : State). Some z) is) | inr is ↦ inr (at ∙ ap (λ (z : State). Some z) is) ];
+    cell_is = cell;
+    holds = inside;
+    early = early;
+  }
+
+  pub seen_some : (o : Option ℕ) → IfSome o (λ r. ((s ≡ queued s.spot r) ⊎ (s ≡ final s.spot r)) × (r ≤ t)) → IfSome o (λ r. (seen : HasSeen states c t) × (seen.arrival ≡ r))
+  unfolding seen_here
+  seen_some (Some r) told = (seen_here r told.0 told.1, refl)
+  seen_some None told = tt
+
+  late_here : (g : Terrain) (q : Request) (horizon : ℕ) (known : ℕ → Option (List Record)) (newest : List ℕ) → IsArena g q.goal horizon known (spots_of states) newest
+      → ((r : ℕ) → s ≡ queued s.spot r → t < r) → ((r : ℕ) → s ≡ final s.spot r → t < r) → HasSeen states c t → ⊥
+  late_here g q horizon known newest arena not_queued not_final seen =
+      let here : slice_get (spots_of states) j ≡ Some s.spot = stands_map (λ (z : State). z.spot) states j s at in
+      let there = spot_seen states c t seen in
+      let interval : seen.spot.interval ≡ s.spot.interval =
+      same_interval g q.goal horizon known seen.spot s.spot t (arena.each seen.place seen.spot there) (arena.each j s.spot here) (seen.cell_is ∙ sym cell) seen.holds inside in
+      let place : seen.place ≡ j = arena.once seen.place j seen.spot s.spot there here (seen.cell_is ∙ sym cell) interval in
+      elim seen.stands [
+        | inl at' ↦
+            let same : queued seen.spot seen.arrival ≡ s = same_Some (queued seen.spot seen.arrival) s (sym (rw place at at') ∙ at) in
+            let less : t < seen.arrival = not_queued seen.arrival (sym same ∙ ap (λ (z : State). queued z.spot seen.arrival) same) in
+            omega (arith, seen.early)
+        | inr at' ↦
+            let same : final seen.spot seen.arrival ≡ s = same_Some (final seen.spot seen.arrival) s (sym (rw place at at') ∙ at) in
+            let less : t < seen.arrival = not_final seen.arrival (sym same ∙ ap (λ (z : State). final z.spot seen.arrival) same) in
+            omega (arith, seen.early)
+      ]
+
+  pub seen_none : (o : Option ℕ) (newest : List ℕ) → IfNone o ((r : ℕ) → s ≡ queued s.spot r → t < r) → IfNone o ((r : ℕ) → s ≡ final s.spot r → t < r)
+      → IfNone o ((g : Terrain) (q : Request) (horizon : ℕ) (known : ℕ → Option (List Record)) → IsArena g q.goal horizon known (spots_of states) newest → HasSeen states c t → ⊥)
+  seen_none (Some r) newest not_queued not_final = tt
+  seen_none None newest not_queued not_final = λ g q horizon known arena seen. late_here g q horizon known newest arena not_queued not_final seen
+
+near_by : (g : Terrain) (goal c : Cell) (left : ℕ) → IsDistance g goal c left → IsWithin g goal c left
+near_by g goal c left distance = record { left = left; way = distance.way; below = omega arith }
 
 -- All states whose keys are below the cursor are final.
 module _ (g : Terrain) (q : Request) (horizon : ℕ) (a : Assignment) (bound : IsBound g q.goal) (states : List State) (cursor : ℕ)
@@ -83,113 +152,78 @@ module _ (g : Terrain) (q : Request) (horizon : ℕ) (a : Assignment) (bound : I
         earliest_of g q a horizon c u r p (spots.safe i p (spot_at i (final p r) at)) cell inside early well.arrived well.least
   ]
 
-  -- the state of a cell that holds a time is one
-  pub same_place : (i u : ℕ) (s : State) (c : Cell) → slice_get states i ≡ Some s → s.spot.cell ≡ c → IsIn u s.spot.interval → (j : ℕ) (o : State) → slice_get states j ≡ Some o
-      → o.spot.cell ≡ c → IsIn u o.spot.interval → o ≡ s
-  same_place i u s c at cell inside j o at' cell' inside' =
-      let here = spot_at i s at in
-      let there = spot_at j o at' in
-      let safe : IsSafeInterval (a c.0) horizon s.spot.interval = subst (λ (z : Cell). IsSafeInterval (a z.0) horizon s.spot.interval) cell (spots.safe i s.spot here) in
-      let safe' : IsSafeInterval (a c.0) horizon o.spot.interval = subst (λ (z : Cell). IsSafeInterval (a z.0) horizon o.spot.interval) cell' (spots.safe j o.spot there) in
-      let interval : o.spot.interval ≡ s.spot.interval = safe_once (a c.0) horizon o.spot.interval s.spot.interval u safe' safe inside' inside in
-      let place : j ≡ i = spots.once j i o.spot s.spot there here (cell' ∙ sym cell) interval in
-      same_Some o s (sym (rw place at at') ∙ at)
+  -- what is known of a cell by then tells since when it is reached
+  pub earliest_seen : (c : Cell) (u left : ℕ) (seen : HasSeen states c u) → IsDistance g q.goal c left → u + left ≤ cursor → IsEarliest g (traffic_by a) q c u seen.arrival
+  earliest_seen c u left seen distance low =
+      let mine : IsDistance g q.goal c seen.spot.left =
+      subst (λ (z : Cell). IsDistance g q.goal z seen.spot.left) seen.cell_is (spots.distance seen.place seen.spot (spot_seen states c u seen)) in
+      let same : seen.spot.left ≡ left = bound.once c seen.spot.left left mine distance in
+      earliest_known seen.place seen.arrival u seen.spot c seen.stands seen.cell_is seen.holds seen.early (omega arith)
 
-  -- a state that isn't known by then is no final state of an arrival by then
-  pub not_final_by : (i u : ℕ) (s : State) (c : Cell) → slice_get states i ≡ Some s → s.spot.cell ≡ c → IsIn u s.spot.interval → ((r : ℕ) → s ≡ final s.spot r → u < r)
-      → HasFinal states c u → ⊥
-  not_final_by i u s c at cell inside late has =
-      let same : final has.spot has.arrival ≡ s = same_place i u s c at cell inside has.place (final has.spot has.arrival) has.stands has.cell_is has.holds in
-      let less : u < has.arrival = late has.arrival (sym same ∙ ap (λ (z : State). final z.spot has.arrival) same) in
-      omega (arith, has.early)
+  -- a cell that isn't known to be reached by then isn't reached, where its key is below the cursor
+  pub never_below : (c : Cell) (u left : ℕ) → IsDistance g q.goal c left → (HasSeen states c u → ⊥) → u + left < cursor → IsReached g q a c u → ⊥
+  never_below c u left distance unseen low reached = unseen (seen_of states c u (final_below c u left reached (near_by g q.goal c left distance) low))
 
-  pub never_below : (i u : ℕ) (s : State) (c : Cell) → slice_get states i ≡ Some s → s.spot.cell ≡ c → IsIn u s.spot.interval → ((r : ℕ) → s ≡ final s.spot r → u < r)
-      → u + s.spot.left < cursor → IsReached g q a c u → ⊥
-  never_below i u s c at cell inside late low reached =
-      let distance : IsDistance g q.goal c s.spot.left = subst (λ (z : Cell). IsDistance g q.goal z s.spot.left) cell (spots.distance i s.spot (spot_at i s at)) in
-      not_final_by i u s c at cell inside late (final_below c u s.spot.left reached (record { left = s.spot.left; way = distance.way; below = omega arith }) low)
-
-  -- a state of the key of the cursor that isn't known by then is entered then, or not reached
-  pub never_beside : (i u : ℕ) (c : Cell) → IsUnseenAt states cursor i c u → ((side : Side) → NoneFrom g q a c u side) → IsReached g q a c u → ⊥
-  never_beside i u c unseen none reached = elim (last_step g q a reached (λ v time before. waits v time before)) [
+  -- a cell of the key of the cursor that isn't known to be reached by then is entered then, or not reached
+  pub never_beside : (c : Cell) (u left : ℕ) → IsUnseenAt g q states cursor c u left → ((side : Side) → NoneFrom g q a c u side) → IsReached g q a c u → ⊥
+  never_beside c u left unseen none reached = elim (last_step g q a reached (λ v time before. waits v time before)) [
     | inr by ↦ none by.side by.from by.before by.beside by.time_is by.precedes
     | inl start ↦ begins start.0 start.1
   ]
     where
-      s : State
-      s = unseen.state
-
-      distance : IsDistance g q.goal c unseen.state.spot.left
-      distance = subst (λ (z : Cell). IsDistance g q.goal z unseen.state.spot.left) unseen.cell_is (spots.distance i unseen.state.spot (spot_at i unseen.state unseen.stands))
-
-      near : IsWithin g q.goal c unseen.state.spot.left
-      near = record { left = unseen.state.spot.left; way = distance.way; below = omega arith }
+      near : IsWithin g q.goal c left
+      near = near_by g q.goal c left unseen.distance
 
       waits : (v : ℕ) → u ≡ v + 1 → IsReached g q a c v → ⊥
       waits v time before =
-          let has : HasFinal states c v = final_below c v unseen.state.spot.left before near (omega (arith, unseen.key)) in
+          let has : HasFinal states c v = final_below c v left before near (omega (arith, unseen.key)) in
           let free : covers (a c.0) (v + 1) ≡ false = subst (λ (n : ℕ). covers (a c.0) n ≡ false) time (reached_free g q a reached) in
           let later : HasFinal states c (v + 1) =
           final_waits g q horizon a bound states cursor 0 spots (way 0) leads c v has (omega (arith, unseen.key)) (reached_free g q a before) free in
-          not_final_by i u unseen.state c unseen.stands unseen.cell_is unseen.inside unseen.not_final (subst (λ (n : ℕ). HasFinal states c n) (sym time) later)
+          unseen.unseen (seen_of states c u (subst (λ (n : ℕ). HasFinal states c n) (sym time) later))
 
       begins : c ≡ q.start → u ≡ q.depart → ⊥
       begins at_start at_depart =
           let free : covers (a q.start.0) q.depart ≡ false =
           subst (λ (n : ℕ). covers (a q.start.0) n ≡ false) at_depart (subst (λ (z : Cell). covers (a z.0) u ≡ false) at_start (reached_free g q a reached)) in
-          let near' : IsWithin g q.goal q.start unseen.state.spot.left = subst (λ (z : Cell). IsWithin g q.goal z unseen.state.spot.left) at_start near in
-          let seen : HasSeen states q.start q.depart = (way 0).start unseen.state.spot.left free near' (omega (arith, unseen.key)) in
-          let cell : seen.spot.cell ≡ c = seen.cell_is ∙ sym at_start in
-          let inside : IsIn u seen.spot.interval = subst (λ (n : ℕ). IsIn n seen.spot.interval) (sym at_depart) seen.holds in
-          elim seen.stands [
-            | inl at ↦
-                let same : queued seen.spot seen.arrival ≡ unseen.state =
-                same_place i u unseen.state c unseen.stands unseen.cell_is unseen.inside seen.place (queued seen.spot seen.arrival) at cell inside in
-                let less : u < seen.arrival = unseen.not_queued seen.arrival (sym same ∙ ap (λ (z : State). queued z.spot seen.arrival) same) in
-                omega (arith, seen.early)
-            | inr at ↦
-                let same : final seen.spot seen.arrival ≡ unseen.state =
-                same_place i u unseen.state c unseen.stands unseen.cell_is unseen.inside seen.place (final seen.spot seen.arrival) at cell inside in
-                let less : u < seen.arrival = unseen.not_final seen.arrival (sym same ∙ ap (λ (z : State). final z.spot seen.arrival) same) in
-                omega (arith, seen.early)
-          ]
+          let near' : IsWithin g q.goal q.start left = subst (λ (z : Cell). IsWithin g q.goal z left) at_start near in
+          let seen : HasSeen states q.start q.depart = (way 0).start left free near' (omega (arith, unseen.key)) in
+          unseen.unseen (subst (λ (n : ℕ). HasSeen states c n) (sym at_depart) (subst (λ (z : Cell). HasSeen states z q.depart) (sym at_start) seen))
 
-  -- a state of the key of the cursor that is entered then is reached since then
-  pub earliest_entered : (i u v : ℕ) (c n : Cell) (side : Side) → IsUnseenAt states cursor i c u → u ≡ v + 1 → IsBeside g side c n → CanPrecede g (traffic_by a) q n c v
+  -- a cell of the key of the cursor that is entered then is reached since then
+  pub earliest_entered : (c n : Cell) (u v left : ℕ) (side : Side) → IsUnseenAt g q states cursor c u left → u ≡ v + 1 → IsBeside g side c n → CanPrecede g (traffic_by a) q n c v
       → IsEarliest g (traffic_by a) q c u u
-  earliest_entered i u v c n side unseen time beside can =
-      let safe : IsSafeInterval (a unseen.state.spot.cell.0) horizon unseen.state.spot.interval = spots.safe i unseen.state.spot (spot_at i unseen.state unseen.stands) in
-      let distance = spots.distance i unseen.state.spot (spot_at i unseen.state unseen.stands) in
-      let back = back_beside g q a side c n beside in
-      let from : IsReached g q a n v = steps_from_walk g q (traffic_by a) n v can.reachable in
-      let opened = subst (λ (z : Cell). IsDistance g q.goal z unseen.state.spot.left) unseen.cell_is distance in
-      let moved : IsReached g q a c (v + 1) = step from (inr (back.0, back.1)) (bound.opens c unseen.state.spot.left opened) can.clear in
-      let reached : IsReached g q a unseen.state.spot.cell u = subst (λ (z : Cell). IsReached g q a z u) (sym unseen.cell_is) (subst (λ (n : ℕ). IsReached g q a c n) (sym time) moved) in
-      earliest_of g q a horizon c u u unseen.state.spot safe unseen.cell_is unseen.inside (omega arith) (record { reached = reached; inside = unseen.inside })
-      (λ t arrived. elim (cases_lt t u) [
-        | inr ge ↦ ge
-        | inl lt ↦
-            let near : IsWithin g q.goal unseen.state.spot.cell unseen.state.spot.left = record { left = unseen.state.spot.left; way = distance.way; below = omega arith } in
-            let has = final_below unseen.state.spot.cell t unseen.state.spot.left arrived.reached near (omega (arith, unseen.key)) in
-            let same : final has.spot has.arrival ≡ unseen.state =
-            same_place i t unseen.state unseen.state.spot.cell unseen.stands refl arrived.inside has.place (final has.spot has.arrival) has.stands has.cell_is has.holds in
-            let less : u < has.arrival = unseen.not_final has.arrival (sym same ∙ ap (λ (z : State). final z.spot has.arrival) same) in
-            absurd (omega (arith, has.early))
-      ])
+  earliest_entered c n u v left side unseen time beside can = record {
+    before = omega arith;
+    reachable = walk_from_steps g q (traffic_by a) reached;
+    untaken = λ x low high. (let e : u ≡ x = omega arith in subst (λ (n : ℕ). covers (a c.0) n ≡ false) e (reached_free g q a reached));
+    earliest = λ s early reachable untaken. elim (cases_lt s u) [
+      | inr since ↦ since
+      | inl before ↦
+          let has : HasFinal states c s = final_below c s left (steps_from_walk g q (traffic_by a) c s reachable) (near_by g q.goal c left unseen.distance) (omega (arith, unseen.key)) in
+          absurd (unseen.unseen (seen_of states c u (stays has (omega arith) untaken)))
+    ];
+  }
+    where
+      reached : IsReached g q a c u
+      reached =
+          let back = back_beside g q a side c n beside in
+          let from : IsReached g q a n v = steps_from_walk g q (traffic_by a) n v can.reachable in
+          subst (λ (m : ℕ). IsReached g q a c m) (sym time) (step from (inr (back.0, back.1)) (bound.opens c left unseen.distance) can.clear)
 
-  -- no state of the cell holds the time
-  pub never_there : (known : ℕ → Option (List Record)) (c : Cell) (first u : ℕ) → Agrees a known → IsBlock g q.goal horizon known (spots_of states) c first
-      → HasTimes g q.goal horizon known cursor (spots_of states) c first → u ≤ horizon
-      → ((i : ℕ) (p : Spot) → slice_get (spots_of states) i ≡ Some p → p.cell ≡ c → IsIn u p.interval → ⊥) → IsReached g q a c u → ⊥
-  never_there known c first u agrees block times near none reached = elim (cases_lt (u + block.left) cursor) [
-    | inl less ↦
-        let has = final_below c u block.left reached (record { left = block.left; way = block.distance.way; below = omega arith }) less in
-        none has.place has.spot (spot_at has.place (final has.spot has.arrival) has.stands) has.cell_is has.holds
-    | inr more ↦
-        let free : covers block.records u ≡ false = subst (λ (rs : List Record). covers rs u ≡ false) (agrees c.0 block.records block.known_is) (reached_free g q a reached) in
-        let has = times block.records block.left u block.known_is block.distance more near free in
-        none (first + has.0) has.1 has.2 has.3 has.4
-  ]
+      stays : {s : ℕ} → HasFinal states c s → s ≤ u → ((x : ℕ) → s ≤ x → x ≤ u → covers (a c.0) x ≡ false) → HasFinal states c u
+      stays {s} has early untaken =
+          let safe : IsSafeInterval (a has.spot.cell.0) horizon has.spot.interval = spots.safe has.place has.spot (spot_at has.place (final has.spot has.arrival) has.stands) in
+          let safe' : IsSafeInterval (a c.0) horizon has.spot.interval = subst (λ (z : Cell). IsSafeInterval (a z.0) horizon has.spot.interval) has.cell_is safe in
+          record {
+            place = has.place;
+            spot = has.spot;
+            arrival = has.arrival;
+            stands = has.stands;
+            cell_is = has.cell_is;
+            holds = in_one (a c.0) horizon has.spot.interval s u safe' has.holds early (omega (arith, unseen.key)) untaken;
+            early = omega (arith, has.early);
+          }
 
   -- the first end is the first arrival
   pub first_arrival : EndsAt q a states cursor → IsFirstArrival g q a cursor
@@ -210,59 +244,47 @@ module _ (g : Terrain) (q : Request) (horizon : ℕ) (a : Assignment) (bound : I
     ];
   }
 
--- more states that nobody has seen
-pub paused_grown : (g : Terrain) (q : Request) (horizon : ℕ) (known known' : ℕ → Option (List Record)) (size size' : ℕ) (old new : Arena) → IsPaused g q horizon known size old
-    → KeepsKnown known known' → IsSound g q horizon known' size' new → new.queue.floor ≡ old.queue.floor → HasGrown old.states.items new.states.items → IsPaused g q horizon known' size' new
-paused_grown g q horizon known known' size size' old new paused kept sound floor grown = record {
+-- more cells are known
+pub paused_kept : (g : Terrain) (q : Request) (horizon : ℕ) (known known' : ℕ → Option (List Record)) (size size' : ℕ) (arena : Arena) → IsPaused g q horizon known size arena
+    → KeepsKnown known known' → size' ≡ size → IsPaused g q horizon known' size' arena
+paused_kept g q horizon known known' size size' arena paused kept same = record {
+  sound = rw same (sound_known g q horizon known known' size arena kept paused.sound);
+  in_time = paused.in_time;
+  on = paused.on;
+  way = λ a x agrees. paused.way a x (agrees_before a known known' kept agrees);
+}
+
+-- more distances are known
+pub paused_counted : (g : Terrain) (q : Request) (horizon : ℕ) (known : ℕ → Option (List Record)) (size : ℕ) (old new : Arena) → IsPaused g q horizon known size old
+    → IsSound g q horizon known size new → new.states ≡ old.states → new.queue ≡ old.queue → IsPaused g q horizon known size new
+paused_counted g q horizon known size old new paused sound states queue = record {
   sound = sound;
-  in_time = rw floor paused.in_time;
-  on = record {
-    place = paused.on.place;
-    spot = paused.on.spot;
-    stands = rw floor ((grown_improves old.states.items new.states.items grown).no_less paused.on.place old.queue.floor paused.on.spot paused.on.stands);
-    cell_is = paused.on.cell_is;
-  };
-  way = λ a x agrees. rw floor (grown_way g q horizon a old.states.items new.states.items old.queue.floor x grown (paused.way a x (agrees_before a known known' kept agrees)));
+  in_time = rw queue paused.in_time;
+  on = rw (states, queue) paused.on;
+  way = λ a x agrees. rw (states, queue) (paused.way a x agrees);
 }
 
 -- The same facts of an arena, for an assignment that has the known calendars.
 module _ (g : Terrain) (q : Request) (horizon : ℕ) (known : ℕ → Option (List Record)) (size : ℕ) (arena : Arena) (bound : IsBound g q.goal)
     (paused : IsPaused g q horizon known size arena) (a : Assignment) (agrees : Agrees a known) where
   spots : AreSpots g q horizon a (spots_of arena.states.items)
-  spots = spots_right g q.goal horizon known (spots_of arena.states.items) arena.firsts q a refl paused.sound.arranged agrees
+  spots = spots_right g q.goal horizon known (spots_of arena.states.items) arena.newest q a refl paused.sound.arranged agrees
 
   way : (x : ℕ) → IsUnderWay g q horizon a arena.states.items arena.queue.floor x
   way x = paused.way a x agrees
 
-  pub paused_there : (c : Cell) (first u : ℕ) → IsBlock g q.goal horizon known (spots_of arena.states.items) c first
-      → HasTimes g q.goal horizon known arena.queue.floor (spots_of arena.states.items) c first → u ≤ horizon
-      → ((i : ℕ) (p : Spot) → slice_get (spots_of arena.states.items) i ≡ Some p → p.cell ≡ c → IsIn u p.interval → ⊥) → IsReached g q a c u → ⊥
-  paused_there c first u block times near none reached =
-      never_there g q horizon a bound arena.states.items arena.queue.floor spots way paused.in_time known c first u agrees block times near none reached
+  pub paused_seen : (c : Cell) (u left : ℕ) (seen : HasSeen arena.states.items c u) → IsDistance g q.goal c left → u + left ≤ arena.queue.floor → IsEarliest g (traffic_by a) q c u seen.arrival
+  paused_seen c u left seen distance low = earliest_seen g q horizon a bound arena.states.items arena.queue.floor spots way paused.in_time c u left seen distance low
 
-  pub paused_known : (i r u : ℕ) (s : State) (c : Cell) → slice_get arena.states.items i ≡ Some s → (s ≡ queued s.spot r) ⊎ (s ≡ final s.spot r) → s.spot.cell ≡ c → IsIn u s.spot.interval
-      → r ≤ u → u + s.spot.left ≤ arena.queue.floor → IsEarliest g (traffic_by a) q c u r
-  paused_known i r u s c at marks cell inside early low =
-      earliest_known g q horizon a bound arena.states.items arena.queue.floor spots way paused.in_time i r u s.spot c
-      (elim marks [ inl is ↦ inl (at ∙ ap (λ (z : State). Some z) is) | inr is ↦ inr (at ∙ ap (λ (z : State). Some z) is) ]) cell inside early low
+  pub paused_below : (c : Cell) (u left : ℕ) → IsDistance g q.goal c left → (HasSeen arena.states.items c u → ⊥) → u + left < arena.queue.floor → IsReached g q a c u → ⊥
+  paused_below c u left distance unseen low reached = never_below g q horizon a bound arena.states.items arena.queue.floor spots way paused.in_time c u left distance unseen low reached
 
-  pub paused_below : (i u : ℕ) (s : State) (c : Cell) → slice_get arena.states.items i ≡ Some s → s.spot.cell ≡ c → IsIn u s.spot.interval → ((r : ℕ) → s ≡ final s.spot r → u < r)
-      → u + s.spot.left < arena.queue.floor → IsReached g q a c u → ⊥
-  paused_below i u s c at cell inside late low reached =
-      never_below g q horizon a bound arena.states.items arena.queue.floor spots way paused.in_time i u s c at cell inside late low reached
+  pub paused_beside : (c : Cell) (u left : ℕ) → IsUnseenAt g q arena.states.items arena.queue.floor c u left → ((side : Side) → NoneFrom g q a c u side) → IsReached g q a c u → ⊥
+  paused_beside c u left unseen none reached = never_beside g q horizon a bound arena.states.items arena.queue.floor spots way paused.in_time c u left unseen none reached
 
-  pub paused_beside : (i u : ℕ) (c : Cell) → IsUnseenAt arena.states.items arena.queue.floor i c u → ((side : Side) → NoneFrom g q a c u side) → IsReached g q a c u → ⊥
-  paused_beside i u c unseen none reached = never_beside g q horizon a bound arena.states.items arena.queue.floor spots way paused.in_time i u c unseen none reached
-
-  pub paused_entered : (i u : ℕ) (c n : Cell) (s : ℕ) → IsUnseenAt arena.states.items arena.queue.floor i c u → IsStepBack g q a c u n s → IsEarliest g (traffic_by a) q c u u
-  paused_entered i u c n s unseen back =
-      earliest_entered g q horizon a bound arena.states.items arena.queue.floor spots way paused.in_time i u back.before c n back.first.side unseen back.time_is back.first.beside back.first.precedes
-
-  pub paused_free : (i u : ℕ) (c : Cell) → IsUnseenAt arena.states.items arena.queue.floor i c u → covers (a c.0) u ≡ false
-  paused_free i u c unseen =
-      let safe : IsSafeInterval (a unseen.state.spot.cell.0) horizon unseen.state.spot.interval =
-      spots.safe i unseen.state.spot (stands_map (λ (z : State). z.spot) arena.states.items i unseen.state unseen.stands) in
-      subst (λ (z : Cell). covers (a z.0) u ≡ false) unseen.cell_is (safe.free u unseen.inside)
+  pub paused_entered : (c n : Cell) (u s left : ℕ) → IsUnseenAt g q arena.states.items arena.queue.floor c u left → IsStepBack g q a c u n s → IsEarliest g (traffic_by a) q c u u
+  paused_entered c n u s left unseen back =
+      earliest_entered g q horizon a bound arena.states.items arena.queue.floor spots way paused.in_time c n u back.before left back.first.side unseen back.time_is back.first.beside back.first.precedes
 
   pub paused_goal : IsEarliest g (traffic_by a) q q.goal arena.queue.floor arena.queue.floor
   paused_goal =
@@ -271,12 +293,12 @@ module _ (g : Terrain) (q : Request) (horizon : ℕ) (known : ℕ → Option (Li
       let at = stands_map (λ (z : State). z.spot) arena.states.items on.place (final on.spot arena.queue.floor) on.stands in
       earliest_of g q a horizon q.goal arena.queue.floor arena.queue.floor on.spot (spots.safe on.place on.spot at) on.cell_is well.arrived.inside (omega arith) well.arrived well.least
 
-pub unseen_loaded : (g : Terrain) (q : Request) (horizon : ℕ) (known : ℕ → Option (List Record)) (size : ℕ) (arena : Arena) (i u : ℕ) (c : Cell) → IsSound g q horizon known size arena
-    → IsUnseenAt arena.states.items arena.queue.floor i c u → IsSome (known c.0)
-unseen_loaded g q horizon known size arena i u c sound unseen =
-    let at = stands_map (λ (z : State). z.spot) arena.states.items i unseen.state unseen.stands in
-    let of = of_arena g q.goal horizon known (spots_of arena.states.items) arena.firsts i unseen.state.spot sound.arranged at in
-    subst (λ (z : Cell). IsSome (known z.0)) unseen.cell_is (some_of (known unseen.state.spot.cell.0) of.records of.known_is)
+-- a cell that was seen is known
+pub seen_loaded : (g : Terrain) (q : Request) (horizon : ℕ) (known : ℕ → Option (List Record)) (size : ℕ) (arena : Arena) (c : Cell) (u : ℕ) → IsSound g q horizon known size arena
+    → HasSeen arena.states.items c u → IsSome (known c.0)
+seen_loaded g q horizon known size arena c u sound seen =
+    let of = sound.arranged.each seen.place seen.spot (spot_seen arena.states.items c u seen) in
+    subst (λ (z : Cell). IsSome (known z.0)) seen.cell_is (some_of (known seen.spot.cell.0) of.records of.known_is)
 
 pub some_kept : (known known' : ℕ → Option (List Record)) (c : ℕ) → KeepsKnown known known' → IsSome (known c) → IsSome (known' c)
 some_kept known known' c kept is = rw (kept c is) is
@@ -383,8 +405,9 @@ start_of g q a c u s earliest none =
         omega (arith, time)
 
 pub count_kept : (g : Terrain) (q : Request) (horizon : ℕ) (known known' : ℕ → Option (List Record)) (size size' : ℕ) (arena : Arena) (lists : ℕ → List Interval)
-    → IsSound g q horizon known size arena → KeepsKnown known known' → size' ≡ size → AreListsOf known' horizon lists → final_count arena.states.items ≤ interval_count known' lists size'
-count_kept g q horizon known known' size size' arena lists sound kept same are =
-    let within = states_within g q horizon known size arena lists sound (lists_before known known' horizon lists kept are) in
+    → size ≡ length g.cells → IsSound g q horizon known size arena → KeepsKnown known known' → size' ≡ size → AreListsOf known' horizon lists
+    → final_count arena.states.items ≤ interval_count known' lists size'
+count_kept g q horizon known known' size size' arena lists size_is sound kept same are =
+    let within = states_within g q horizon known size arena lists size_is sound (lists_before known known' horizon lists kept are) in
     let grows = interval_grows known known' lists size kept in
     rw same (omega (arith, within, grows))

@@ -1,18 +1,14 @@
--- One state that is visited, and all states of a cell.
+-- One state that is visited: each move into its interval is seen then.
 use Rattle.std.proofs.Common.{arith, subst, sym, ap, ◌∙◌, refl, inl, inr, set}
-use Rattle.std.proofs.lemmas.Bool.{cases_lt}
-use Rattle.std.proofs.lemmas.Option.{slice_get_within, slice_get_cases, same_Some}
-use Rattle.std.proofs.lemmas.List.{length-map}
-use Rattle.std.specs.Prelude.{◌≡◌, ◌≢◌, ℕ, ◌+◌, ◌-◌, ◌<◌, ◌≤◌, false, List, Option, Some, length, slice_get, ◌⊎◌}
+use Rattle.std.specs.Prelude.{◌≡◌, ℕ, ◌+◌, ◌<◌, ◌≤◌, List, Some, slice_get}
 use Rattle.fleet_base.specs.declared.grid.Cell.{Cell}
 use Rattle.fleet_base.specs.declared.request.Record.{Record}
 use Rattle.fleet_base.specs.declared.request.Request.{Request}
 use Rattle.fleet_base.specs.Terrain.{Terrain}
 use Rattle.fleet_base.specs.Reach.{Reached}
-use Rattle.calendars.specs.Records.{covers}
-use Rattle.calendars.specs.Assignments.{Assignment, Agrees, traffic_by}
+use Rattle.calendars.specs.Assignments.{Assignment, traffic_by}
 use Rattle.safe_intervals.specs.declared.interval.Interval.{Interval}
-use Rattle.safe_intervals.specs.Safe.{IsIn, IsSafeInterval}
+use Rattle.safe_intervals.specs.Safe.{IsSafeInterval}
 use Rattle.sipp_search.specs.declared.states.Spot.{Spot}
 use Rattle.sipp_search.specs.declared.states.State.{State}
 use Rattle.sipp_search.specs.declared.states.Mark.{Mark}
@@ -20,13 +16,11 @@ use Rattle.sipp_search.specs.declared.states.Mark.TheVariants.{Final}
 use Rattle.sipp_search.specs.Marks.{spots_of, final, offered, offered_mark}
 use Rattle.sipp_search.specs.Entry.{CanEnter, IsEntry}
 use Rattle.static_distance.specs.Distance.{IsDistance}
-use Rattle.sipp_search.specs.Arena.{IsBlock, HasTimes}
-use Rattle.sipp_search.specs.Progress.{IsBound, MayMove, AreSpots, IsArrived, IsQueuedWell, AreQueuedWell, IsUnderWay, Improves}
-use Rattle.sipp_search.specs.Visiting.{IsSource, HasEntered, HasLed}
+use Rattle.sipp_search.specs.Progress.{MayMove, AreSpots, IsArrived, IsQueuedWell, AreQueuedWell, IsUnderWay, Improves}
+use Rattle.sipp_search.specs.Visiting.{IsSource, HasEntered, HasLed, HasLedInto}
 use Rattle.sipp_search.proofs.Lists.{stands_map}
 use Rattle.sipp_search.proofs.Moves.{wait_until, move_on}
 use Rattle.sipp_search.proofs.Marking.{marked, offered_has, offered_improves, offered_well, offered_seen, improved_way}
-use Rattle.sipp_search.proofs.Blocks.{block_holds, rising_from}
 
 abbrev pub IsVisited : Terrain → Request → ℕ → Assignment → List State → ℕ → ℕ → List Record → List Record → Spot → ℕ → Spot → Type 0
 IsVisited g q horizon a states cursor x here there from r to = IsUnderWay g q horizon a states cursor x × HasEntered here there horizon states from r to
@@ -115,78 +109,19 @@ module _ (g : Terrain) (q : Request) (horizon : ℕ) (a : Assignment) (cursor x 
               (λ m mark. (way.final_well j m s.spot (at ∙ ap (λ (z : Mark). Some (marked s.spot z)) mark)).least e entry_arrives)),
         )
 
--- The loop over the states of a cell.
-module _ (g : Terrain) (q : Request) (horizon : ℕ) (a : Assignment) (old now : List State) (from : Spot) (r : ℕ) (to : Cell) (first : ℕ) where
-  -- what was seen of the spots from the first one to that before j
-  abbrev pub HasEnteredUntil : ℕ → Type 0
-  HasEnteredUntil j = (i : ℕ) (p : Spot) → first ≤ i → i < j → slice_get (spots_of old) i ≡ Some p → HasEntered (a from.cell.0) (a to.0) horizon now from r p
+-- each move that arrives in the spot was seen, since no way is shorter than the static distance
+pub entered_into : (g : Terrain) (q : Request) (horizon : ℕ) (a : Assignment) (states : List State) (from : Spot) (r : ℕ) (to : Spot) (here there : List Record)
+    → a from.cell.0 ≡ here → a to.cell.0 ≡ there → IsDistance g q.goal to.cell to.left → HasEntered here there horizon states from r to
+    → HasLedInto g q horizon a states from r to.cell to.interval
+entered_into g q horizon a states from r to here there here_is there_is distance entered t k since until lands move near in_time =
+    let left : to.left ≤ near.left = distance.least near.left near.way in
+    entered t (record { not_before = since; until = until; lands = lands; unbarred = rw (here_is, there_is) at move.unbarred }) (omega (arith, near.below))
 
-  pub none_entered : HasEnteredUntil first
-  none_entered i p low high at = absurd (omega arith)
-
-  -- the block is over there, or its spot begins when a move from the first spot is too late
-  abbrev pub IsOutOf : Spot → Type 0
-  IsOutOf p = (p.cell ≢ to) ⊎ (from.interval.to + 1 < p.interval.from)
-
-  -- where the spots until j were entered and no later one can be, each move was made
-  pub has_led : (known : ℕ → Option (List Record)) (floor j : ℕ) → IsBound g q.goal → Agrees a known → AreSpots g q horizon a (spots_of old)
-      → IsBlock g q.goal horizon known (spots_of old) to first → HasTimes g q.goal horizon known floor (spots_of old) to first
-      → ((left : ℕ) → IsDistance g q.goal to left → floor ≤ r + 1 + left) → first ≤ j
-      → ((p : Spot) → slice_get (spots_of old) j ≡ Some p → IsOutOf p) → HasEnteredUntil j → HasLed g q horizon a now from r to
-  has_led known floor j bound agrees spots block times late run no_more entered t k since until move near in_time =
-      let records : a to.0 ≡ block.records = agrees to.0 block.records block.known_is in
-      let free : covers block.records (t + 1) ≡ false = rw records at move.untaken in
-      let low : floor ≤ r + 1 + block.left = late block.left block.distance in
-      let holds = block_holds g q.goal horizon known (spots_of old) floor to first (t + 1) block times (omega arith) (omega arith) free in
-      let spot : Spot = record { cell = to; interval = holds.1; left = block.left } in
-      let at : slice_get (spots_of old) (first + holds.0) ≡ Some spot = block.each holds.0 holds.1 holds.2 in
-      let left : block.left ≤ near.left = block.distance.least near.left near.way in
-      entered (first + holds.0) spot (omega arith) (before holds.0 holds.1 holds.2 t until holds.3) at t
-      (record { not_before = since; until = until; lands = holds.3; unbarred = move.unbarred }) (omega (arith, near.below))
-    where
-      -- the block is a run in rising order, and no move leads into it from j on
-      before : (n : ℕ) (i : Interval) → slice_get block.intervals n ≡ Some i → (t : ℕ) → t ≤ from.interval.to → IsIn (t + 1) i → first + n < j
-      before n i at t until lands = elim (cases_lt (first + n) j) [
-        | inl less ↦ less
-        | inr past ↦
-            let e : first + (j - first) ≡ j = omega arith in
-            let within : n < length block.intervals = slice_get_within block.intervals n i at in
-            elim (slice_get_cases block.intervals (j - first)).1 [
-              | inl there ↦
-                  let spot : Spot = record { cell = to; interval = there.0; left = block.left } in
-                  let stands : slice_get (spots_of old) j ≡ Some spot = rw e at (block.each (j - first) there.0 there.2) in
-                  elim (no_more spot stands) [
-                    | inl other ↦ absurd (other refl)
-                    | inr late ↦ let rises : there.0.from ≤ i.from = rising_from block.records horizon block.intervals (j - first) n there.0 i block.safe there.2 at (omega arith) in absurd (omega arith)
-                  ]
-              | inr over ↦ omega (arith, over.0)
-            ]
-      ]
-
-pub entered_kept : (here there : List Record) (horizon : ℕ) (old new : List State) (from : Spot) (r : ℕ) (to : Spot) → Improves old new
-    → HasEntered here there horizon old from r to → HasEntered here there horizon new from r to
-entered_kept here there horizon old new from r to better entered t can in_time = better.seen to.cell (t + 1) (entered t can in_time)
+pub led_same : (g : Terrain) (q : Request) (horizon : ℕ) (a : Assignment) (states : List State) (from : Spot) (r : ℕ) (c d : Cell) (i j : Interval) → c ≡ d → i ≡ j
+    → HasLedInto g q horizon a states from r c i → HasLedInto g q horizon a states from r d j
+led_same g q horizon a states from r c d i j cell interval led =
+    subst (λ (z : Interval). HasLedInto g q horizon a states from r d z) interval (subst (λ (z : Cell). HasLedInto g q horizon a states from r z i) cell led)
 
 pub led_kept : (g : Terrain) (q : Request) (horizon : ℕ) (a : Assignment) (old new : List State) (from : Spot) (r : ℕ) (c : Cell) → Improves old new
     → HasLed g q horizon a old from r c → HasLed g q horizon a new from r c
 led_kept g q horizon a old new from r c better led t k since until move near in_time = better.seen c (t + 1) (led t k since until move near in_time)
-
--- one more spot was entered
-pub entered_more : (g : Terrain) (q : Request) (horizon : ℕ) (a : Assignment) (old now new : List State) (from : Spot) (r : ℕ) (to : Cell) (first j : ℕ) (p : Spot)
-    (here there : List Record) → a from.cell.0 ≡ here → a to.0 ≡ there → Improves now new → slice_get (spots_of old) j ≡ Some p
-    → HasEnteredUntil g q horizon a old now from r to first j → HasEntered here there horizon new from r p → HasEnteredUntil g q horizon a old new from r to first (j + 1)
-entered_more g q horizon a old now new from r to first j p here there here_is there_is better at before last i o low high at' = elim (cases_lt i j) [
-  | inl less ↦ entered_kept (a from.cell.0) (a to.0) horizon now new from r o better (before i o low less at')
-  | inr past ↦
-      let e : i ≡ j = omega arith in
-      let same : p ≡ o = same_Some p o (sym at ∙ (rw e at at')) in
-      let mine : HasEntered (a from.cell.0) (a to.0) horizon new from r p = rw (here_is, there_is) last in
-      subst (λ (z : Spot). HasEntered (a from.cell.0) (a to.0) horizon new from r z) same mine
-]
-
--- the spot at a place of the changed states is that of before
-pub spot_there : (old now : List State) (j : ℕ) (s : State) → spots_of now ≡ spots_of old → slice_get now j ≡ Some s → slice_get (spots_of old) j ≡ Some s.spot
-spot_there old now j s same at = rw (← same) (stands_map (λ (z : State). z.spot) now j s at)
-
-pub same_length : (old now : List State) → spots_of now ≡ spots_of old → length now ≡ length old
-same_length old now same = sym (length-map now (λ (z : State). z.spot)) ∙ (ap length same ∙ length-map old (λ (z : State). z.spot))

@@ -1,5 +1,5 @@
 -- The moves from one safe interval into another.
-use Rattle.std.specs.Prelude.{◌≡◌, ℕ, ◌+◌, ◌≤◌, false, List, Option, Some, None}
+use Rattle.std.specs.Prelude.{◌≡◌, ℕ, ◌+◌, ◌≤◌, false, List}
 use Rattle.fleet_base.specs.declared.request.Record.{Record}
 use Rattle.calendars.specs.Records.{is_exchange}
 use Rattle.safe_intervals.specs.declared.interval.Interval.{Interval}

@@ -9,4 +9,3 @@ pub mod Running
 pub mod Back
 pub mod Tabled
 pub mod Ties
-pub mod Passed

@@ -15,7 +15,7 @@ use Rattle.sipp_search.specs.declared.states.Arena.{Arena}
 use Rattle.sipp_search.specs.declared.states.Taken.{Taken}
 use Rattle.sipp_search.specs.declared.states.Mark.TheVariants.{Unseen}
 use Rattle.sipp_search.specs.Marks.{spots_of, keys_of, queued, final}
-use Rattle.sipp_search.specs.Arena.{IsArena, AreWhole}
+use Rattle.sipp_search.specs.Arena.{IsArena}
 use Rattle.sipp_search.specs.Progress.{IsBound, IsWithin, HasFinal, AreSpots, IsFinalWell}
 
 -- what is asked is right, and the view has the cells of the grid
@@ -28,9 +28,8 @@ pub record IsReady (g : Terrain) (q : Request) (horizon size : ℕ) : Type 0 whe
 pub record IsSound (g : Terrain) (q : Request) (horizon : ℕ) (known : ℕ → Option (List Record)) (size : ℕ) (arena : Arena) : Type 0 where
   pub paired : arena.queue.keys ≡ keys_of arena.states.items
   pub bound : arena.queue.bound ≡ horizon
-  pub count : length arena.firsts ≡ size
-  pub arranged : IsArena g q.goal horizon known (spots_of arena.states.items) arena.firsts
-  pub whole : AreWhole g q.goal horizon known arena.queue.floor (spots_of arena.states.items) arena.firsts
+  pub count : length arena.newest ≡ size
+  pub arranged : IsArena g q.goal horizon known (spots_of arena.states.items) arena.newest
   pub aimed : IsAimed g arena.distances
   pub goal_is : arena.distances.goal ≡ q.goal
   pub room_is : room arena.distances ≡ length g.cells
@@ -38,7 +37,7 @@ pub record IsSound (g : Terrain) (q : Request) (horizon : ℕ) (known : ℕ → 
 -- the arena serves grids of that many cells up to the horizon, whatever is in it
 pub record Serves (horizon cells : ℕ) (arena : Arena) : Type 0 where
   pub bound : arena.queue.bound ≡ horizon
-  pub count : length arena.firsts ≡ cells
+  pub count : length arena.newest ≡ cells
   pub room_is : room arena.distances ≡ cells
 
 -- whatever was known is still known
@@ -70,7 +69,7 @@ pub record SettlesNext (old new : Arena) (limit : ℕ) (taken : Taken) : Type 0 
   pub in_limit : taken.arrival + taken.spot.left ≤ limit
   pub rises : old.queue.floor ≤ taken.arrival + taken.spot.left
   pub states_are : new.states.items ≡ slice_set old.states.items taken.id (final taken.spot taken.arrival)
-  pub firsts_are : new.firsts ≡ old.firsts
+  pub newest_are : new.newest ≡ old.newest
   pub distances_are : new.distances ≡ old.distances
   pub queue_is : new.queue ≡ record old.queue { keys = keys_of new.states.items; floor = taken.arrival + taken.spot.left }
 

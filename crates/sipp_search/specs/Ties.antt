@@ -14,10 +14,9 @@ use Rattle.sipp_search.specs.declared.states.Arena.{Arena}
 use Rattle.sipp_search.specs.declared.ties.Ties.{Ties}
 use Rattle.sipp_search.specs.declared.ties.Told.{Told}
 use Rattle.sipp_search.specs.declared.ties.Told.TheVariants.{Since, Never, Unclear}
-use Rattle.safe_intervals.specs.Safe.{IsIn}
+use Rattle.static_distance.specs.Distance.{IsDistance}
 use Rattle.sipp_search.specs.declared.states.State.{State}
-use Rattle.sipp_search.specs.Marks.{queued, final}
-use Rattle.sipp_search.specs.Progress.{IsUnderWay}
+use Rattle.sipp_search.specs.Progress.{IsUnderWay, HasSeen}
 use Rattle.sipp_search.specs.Running.{IsSound}
 use Rattle.sipp_search.specs.Back.{IsOn, NoneFrom}
 
@@ -80,15 +79,11 @@ TellsStep g q a c t (Since hop) = IsStepBack g q a c t hop.cell hop.time
 TellsStep g q a c t Never = (side : Side) → NoneFrom g q a c t side
 TellsStep g q a c t Unclear = ⊤
 
--- the state at the place is of the cell, its key at that time is the floor, and it isn't known to be reached by then
-pub record IsUnseenAt (states : List State) (floor place : ℕ) (c : Cell) (t : ℕ) : Type 0 where
-  pub state : State
-  pub stands : slice_get states place ≡ Some state
-  pub cell_is : state.spot.cell ≡ c
-  pub inside : IsIn t state.spot.interval
-  pub key : t + state.spot.left ≡ floor
-  pub not_queued : (r : ℕ) → state ≡ queued state.spot r → t < r
-  pub not_final : (r : ℕ) → state ≡ final state.spot r → t < r
+-- the cell's key at that time is the floor, and no state of it is known to be reached by then
+pub record IsUnseenAt (g : Terrain) (q : Request) (states : List State) (floor : ℕ) (c : Cell) (t left : ℕ) : Type 0 where
+  pub distance : IsDistance g q.goal c left
+  pub key : t + left ≡ floor
+  pub unseen : ¬ (HasSeen states c t)
 
 -- where it was reached, the cell's calendar is known
 abbrev pub LoadedWhereSince : (ℕ → Option (List Record)) → Told → Type 0

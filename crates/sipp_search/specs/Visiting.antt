@@ -5,8 +5,10 @@ use Rattle.fleet_base.specs.declared.grid.Side.{Side}
 use Rattle.fleet_base.specs.declared.request.Record.{Record}
 use Rattle.fleet_base.specs.declared.request.Request.{Request}
 use Rattle.fleet_base.specs.Terrain.{Terrain, IsOpen, IsBeside}
+use Rattle.calendars.specs.Places.{place_in}
 use Rattle.calendars.specs.Assignments.{Assignment}
-use Rattle.safe_intervals.specs.Safe.{IsSafeInterval}
+use Rattle.safe_intervals.specs.Safe.{IsIn, IsSafeInterval}
+use Rattle.safe_intervals.specs.declared.interval.Interval.{Interval}
 use Rattle.sipp_search.specs.declared.states.Spot.{Spot}
 use Rattle.sipp_search.specs.declared.states.State.{State}
 use Rattle.sipp_search.specs.Entry.{CanEnter}
@@ -27,4 +29,14 @@ HasEntered here there horizon states from r to = (t : ℕ) → CanEnter here the
 -- each move from the spot into the cell was seen
 abbrev pub HasLed : Terrain → Request → ℕ → Assignment → List State → Spot → ℕ → Cell → Type 0
 HasLed g q horizon a states from r c = (t k : ℕ) → r ≤ t → t ≤ from.interval.to → MayMove g a from.cell c t
+    → IsWithin g q.goal c k → t + 1 + k ≤ horizon → HasSeen states c (t + 1)
+
+-- the same for the moves that arrive after so many records of the cell or more
+abbrev pub HasLedPast : Terrain → Request → ℕ → Assignment → List State → Spot → ℕ → Cell → ℕ → Type 0
+HasLedPast g q horizon a states from r c first = (t k : ℕ) → r ≤ t → t ≤ from.interval.to → first ≤ place_in (t + 1) (a c.0) → MayMove g a from.cell c t
+    → IsWithin g q.goal c k → t + 1 + k ≤ horizon → HasSeen states c (t + 1)
+
+-- the same for the moves that arrive in that interval
+abbrev pub HasLedInto : Terrain → Request → ℕ → Assignment → List State → Spot → ℕ → Cell → Interval → Type 0
+HasLedInto g q horizon a states from r c i = (t k : ℕ) → r ≤ t → t ≤ from.interval.to → IsIn (t + 1) i → MayMove g a from.cell c t
     → IsWithin g q.goal c k → t + 1 + k ≤ horizon → HasSeen states c (t + 1)

@@ -1,15 +1,15 @@
-ghost use Rattle.std.specs.Prelude.{◌≡◌, ◌≢◌, ℕ, ◌+◌, ◌-◌, ◌<◌, ◌≤◌, ◌++◌, ◌∷◌, [], List, Option, Some, None, IsSome, OnOk, IfOk, IfSome, IfNone, length, slice_get, replicate, vec_len};
-ghost use Rattle.std.specs.Bool.{OnTrue, OnFalse};
-ghost use Rattle.fleet_base.specs.declared.grid.Cell.{Cell as ACell};
+ghost use Rattle.std.specs.Prelude.{◌≡◌, ℕ, ◌<◌, ◌≤◌, ◌++◌, ◌∷◌, [], List, Option, OnOk, IfOk, IfSome, IfNone, length, replicate};
 ghost use Rattle.fleet_base.specs.declared.request.Record.{Record};
 ghost use Rattle.fleet_base.specs.Canonical.{ReadsBack};
 ghost use Rattle.calendars.specs.Assignments.{Assignment, Agrees, traffic_by};
 ghost use Rattle.safe_intervals.specs.Safe.{IsIn};
-ghost use Rattle.sipp_search.specs.Marks.{final};
+ghost use Rattle.sipp_search.specs.Arena.{AreChained};
+ghost use Rattle.sipp_search.specs.Marks.{spots_of, final};
 ghost use Rattle.sipp_search.specs.Progress.{HasFinal};
 ghost use Rattle.sipp_search.specs.Running.{IsReady, IsSound, IsOver};
-ghost use Rattle.sipp_search.specs.Back.{IsOn, IsHopFrom, NoneFrom, IsHop, ReadsOn};
+ghost use Rattle.sipp_search.specs.Back.{IsOn, IsHopFrom, NoneFrom, IsHop};
 
+use crate::chain::place_at;
 use crate::expand::side_at;
 use crate::states::{Arena, Mark, State};
 use crate::task::Task;
@@ -46,24 +46,14 @@ fn arrival_until(state: State, time: u32) -> Option<u32>
 
 // The arrival in the interval of the cell that holds the time, where the cell is reached in it by then.
 fn last_arrival(task: &Task, arena: &Arena, cell: Cell, time: u32) -> Option<u32>
-    requires cell { cell.0 < length arena.now.firsts }
+    requires cell { cell.0 < length arena.now.newest }
+    requires chained { AreChained (spots_of arena.now.states.items) arena.now.newest }
     ensures some { IfSome result (λ r. (has : HasFinal arena.now.states.items cell time) × (has.arrival ≡ r)) }
     ensures none { IfNone result ((known : ℕ → Option (List Record)) (size : ℕ) → IsSound task.now.grid.now task.now.request task.now.horizon known size arena.now
         → HasFinal arena.now.states.items cell time → ⊥) }
 {
-    let first = arena.firsts.get(cell.0 as usize) as usize;
-    if first == 0 {
-        return None;
-    }
-    for j in first - 1..arena.states.len() {
-        if arena.states[j].spot.cell.0 != cell.0 {
-            return None;
-        }
-        if let Some(arrival) = arrival_until(arena.states[j], time) {
-            return Some(arrival);
-        }
-    }
-    None
+    let place = place_at(arena, cell, time)?;
+    arrival_until(arena.states[place], time)
 }
 
 // Where the agent came from on that side, if the cell that is entered at that time can be reached from there.

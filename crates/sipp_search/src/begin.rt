@@ -1,24 +1,22 @@
-ghost use Rattle.std.specs.Prelude.{◌≡◌, ◌≢◌, ℕ, suc, ◌+◌, ◌<◌, ◌≤◌, ◌⊎◌, [], List, Option, Some, None, IsSome, OnOk, IfOk, IfSome, IfNone, length, slice_get};
-ghost use Rattle.std.specs.Bool.{OnTrue, OnFalse};
-ghost use Rattle.fleet_base.specs.Terrain.{Terrain};
-ghost use Rattle.fleet_base.specs.declared.grid.Cell.{Cell as ACell};
+ghost use Rattle.std.specs.Prelude.{◌≡◌, ◌≢◌, ℕ, ◌+◌, ◌<◌, ◌≤◌, ◌⊎◌, [], List, Option, Some, IsSome, OnOk, length, slice_get};
 ghost use Rattle.fleet_base.specs.declared.request.Record.{Record};
+ghost use Rattle.calendars.specs.Places.{place_in};
 ghost use Rattle.calendars.specs.Assignments.{Assignment, Agrees};
-ghost use Rattle.safe_intervals.specs.Safe.{IsIn};
-ghost use Rattle.sipp_search.specs.declared.states.State.{State as AState};
+ghost use Rattle.safe_intervals.specs.Safe.{IsIn, IsSafeInterval};
+ghost use Rattle.static_distance.specs.Distance.{IsDistance};
 ghost use Rattle.sipp_search.specs.declared.states.Spot.{Spot as ASpot};
-ghost use Rattle.sipp_search.specs.Marks.{spots_of, keys_of, final, final_count};
-ghost use Rattle.sipp_search.specs.Arena.{IsBlock};
+ghost use Rattle.sipp_search.specs.Marks.{final, final_count};
 ghost use Rattle.sipp_search.specs.Progress.{IsUnderWay};
 ghost use Rattle.sipp_search.specs.Running.{IsReady, IsSound, Serves, KeepsKnown};
 
-use crate::expand::offer;
-use crate::states::Arena;
+use crate::chain::{add_state, way_left};
+use crate::enter::offer;
+use crate::states::{Arena, Spot};
 use crate::task::Task;
-use crate::touch::block_of;
 use calendars::CalendarView;
-use fleet_base::{Cell, Memory};
-use safe_intervals::Interval;
+use fleet_base::Memory;
+use safe_intervals::{Interval, gap_at};
+use static_distance::place_of;
 
 // Forgets what an earlier search touched, also one that ended for want of memory, and aims at the goal.
 pub fn prepare(task: &Task, arena: &mut Arena) -> Result<(), Memory>
@@ -32,36 +30,54 @@ pub fn prepare(task: &Task, arena: &mut Arena) -> Result<(), Memory>
 {
     arena.states.clear();
     arena.queue.clear();
-    arena.firsts.clear();
+    arena.newest.clear();
     arena
         .distances
         .aim(task.grid, task.request.goal, task.request.start)?;
     Ok(())
 }
 
-fn holds(interval: Interval, time: u32) -> bool
-    ensures yes { OnTrue result (IsIn time interval) }
-    ensures no { OnFalse result (IsIn time interval → ⊥) }
+// Queues the start at the departure, which that interval holds.
+fn begin_in<V: CalendarView>(
+    task: &Task,
+    view: &V,
+    arena: &mut Arena,
+    interval: Interval,
+    left: u32,
+    place: usize,
+) -> Result<(), Memory>
+    requires ready { IsReady task.now.grid.now task.now.request task.now.horizon (V.size view.now) }
+    requires sound { IsSound task.now.grid.now task.now.request task.now.horizon (V.known view.now) (V.size view.now) arena.old }
+    requires start { task.now.request.start.0 < V.size view.now }
+    requires known { IsSome (V.known view.now task.now.request.start.0) }
+    requires safe { (records : List Record) → V.known view.now task.now.request.start.0 ≡ Some records → IsSafeInterval records task.now.horizon interval }
+    requires inside { IsIn task.now.request.depart interval }
+    requires place { (records : List Record) (t : ℕ) → V.known view.now task.now.request.start.0 ≡ Some records → IsIn t interval → place_in t records ≡ place }
+    requires distance { IsDistance task.now.grid.now task.now.request.goal task.now.request.start left }
+    requires in_time { task.now.request.depart + left ≤ task.now.horizon }
+    requires none { arena.old.states.items ≡ [] }
+    requires floor { arena.old.queue.floor ≡ 0 }
+    ensures serves { Serves task.now.horizon (length task.now.grid.now.cells) arena.new }
+    ensures sound { OnOk result (IsSound task.now.grid.now task.now.request task.now.horizon (V.known view.now) (V.size view.now) arena.new) }
+    ensures floor { OnOk result (arena.new.queue.floor ≡ 0) }
+    ensures none_final { OnOk result ((i r : ℕ) (p : ASpot) → slice_get arena.new.states.items i ≢ Some (final p r)) }
+    ensures none_counted { OnOk result (final_count arena.new.states.items ≡ 0) }
+    ensures way { OnOk result ((a : Assignment) (x : ℕ) → Agrees a (V.known view.now) → IsUnderWay task.now.grid.now task.now.request task.now.horizon a arena.new.states.items 0 x) }
 {
-    interval.from <= time && time <= interval.to
-}
-
-// The place of the state of the cell that holds the time, from the first state of the cell on.
-pub fn place_at(arena: &Arena, first: usize, cell: Cell, time: u32) -> Option<usize>
-    ensures some { IfSome result (λ j. (s : AState) × (slice_get arena.now.states.items j ≡ Some s) × (s.spot.cell ≡ cell) × IsIn time s.spot.interval) }
-    ensures none { IfNone result ((g : Terrain) (goal : ACell) (horizon : ℕ) (known : ℕ → Option (List Record)) → IsBlock g goal horizon known (spots_of arena.now.states.items) cell first
-        → (i : ℕ) (p : ASpot) → slice_get (spots_of arena.now.states.items) i ≡ Some p → p.cell ≡ cell → IsIn time p.interval → ⊥) }
-{
-    for j in first..arena.states.len() {
-        let state = arena.states[j];
-        if state.spot.cell.0 != cell.0 {
-            return None;
-        }
-        if holds(state.spot.interval, time) {
-            return Some(j);
-        }
-    }
-    None
+    let request = task.request;
+    let id = add_state(
+        arena,
+        Spot {
+            cell: request.start,
+            interval,
+            left,
+            place,
+            older: 0,
+        },
+    )?;
+    let key = request.depart + left;
+    offer(&mut arena.states, &mut arena.queue, id, request.depart, key)?;
+    Ok(())
 }
 
 // Queues the start at the departure, where it is free then and the goal could be reached from it by the horizon.
@@ -84,7 +100,8 @@ pub fn begin<V: CalendarView>(task: &Task, view: &mut V, arena: &mut Arena) -> R
     ensures way { OnOk result ((a : Assignment) (x : ℕ) → Agrees a (V.known view.new) → IsUnderWay task.now.grid.now task.now.request task.now.horizon a arena.new.states.items 0 x) }
 {
     let request = task.request;
-    let Some(left) = arena.distances.to_goal(task.grid, request.start)? else {
+    let at = place_of(task.grid, request.start);
+    let Some(left) = way_left(task, &*view, arena, request.start, at)? else {
         return Ok(());
     };
     let Some(room) = task.horizon.checked_sub(request.depart) else {
@@ -93,20 +110,16 @@ pub fn begin<V: CalendarView>(task: &Task, view: &mut V, arena: &mut Arena) -> R
     if left > room {
         return Ok(());
     }
-    block_of(task, view, arena, request.goal)?;
-    let Some(first) = block_of(task, view, arena, request.start)? else {
+    view.load(request.start)?;
+    let calendar = view.calendar(request.start);
+    let _in_order = calendar.records();
+    let place = calendar.place_of(request.depart);
+    let Some(interval) = gap_at(calendar, place, task.horizon) else {
         return Ok(());
     };
-    let Some(place) = place_at(&*arena, first, request.start, request.depart) else {
+    if request.depart < interval.from {
         return Ok(());
-    };
-    let key = request.depart + left;
-    offer(
-        &mut arena.states,
-        &mut arena.queue,
-        place,
-        request.depart,
-        key,
-    )?;
+    }
+    begin_in(task, &*view, arena, interval, left, place)?;
     Ok(())
 }

@@ -2,12 +2,14 @@
 // Its one contract: `search` gives the canonical walk of a request, or says that no free walk exists, for every
 // assignment of calendars that has the loaded ones, and the table of exactly the states that it settled.
 // Modules: `searcher` and `sipp` (the search), `answer` (what it answers), `steps` (the counter of takes), `task` (what is asked), `states`
-// (the arena), `begin`, `touch`, `expand` and `run` (the search's parts), `back`, `ties`, `table` and `reply` (the answer's).
+// (the arena), `chain`, `begin`, `enter`, `expand` and `run` (the search's parts), `back`, `ties`, `table` and `reply` (the answer's).
 #![tactic(auto)]
 
 mod answer;
 mod back;
 mod begin;
+mod chain;
+mod enter;
 mod expand;
 mod reply;
 mod run;
@@ -20,7 +22,6 @@ mod task;
 #[cfg(test)]
 mod tests;
 mod ties;
-mod touch;
 
 pub use answer::{Found, Settled, Table};
 pub use searcher::{Searcher, search};

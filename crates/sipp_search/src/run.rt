@@ -1,4 +1,4 @@
-ghost use Rattle.std.specs.Prelude.{◌≡◌, ◌≢◌, ℕ, suc, ◌+◌, ◌<◌, ◌≤◌, ◌⊎◌, ◌^◌, true, false, List, Option, Some, None, IsSome, OnOk, IfOk, IfSome, IfNone, length, slice_get, unwrap_or};
+ghost use Rattle.std.specs.Prelude.{◌≡◌, ◌≢◌, ℕ, ◌+◌, ◌<◌, ◌≤◌, List, Option, Some, None, IsSome, OnOk, IfOk, IfSome, IfNone, length, slice_get, unwrap_or};
 ghost use Rattle.std.specs.Bool.{OnTrue, OnFalse};
 ghost use Rattle.fleet_base.specs.declared.request.Record.{Record};
 ghost use Rattle.calendars.specs.Assignments.{Assignment, Agrees};

@@ -31,12 +31,12 @@ impl Model for Searcher {
 
     ghost Value = { Scratch };
 
-    ghost view = { λ s. record { cells = length s.arena.firsts; horizon = s.horizon } };
+    ghost view = { λ s. record { cells = length s.arena.newest; horizon = s.horizon } };
 
     ghost use Rattle.sipp_search.specs.Running.{Serves};
     ghost use Rattle.sipp_search.specs.Ties.{HaveRoom};
 
-    ghost invariant = { λ s. (s.horizon ≤ 8000) × Serves s.horizon (length s.arena.firsts) s.arena × HaveRoom (length s.arena.firsts) s.ties };
+    ghost invariant = { λ s. (s.horizon ≤ 8000) × Serves s.horizon (length s.arena.newest) s.arena × HaveRoom (length s.arena.newest) s.ties };
 }
 
 impl Searcher {

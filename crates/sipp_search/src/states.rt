@@ -14,6 +14,10 @@ pub struct Spot {
     pub cell: Cell,
     pub interval: Interval,
     pub left: u32,
+    // How many of the cell's records come before the interval.
+    pub place: usize,
+    // 1 plus the place of the cell's state that was added before this one, or 0.
+    pub older: u32,
 }
 
 /// How far the search has come with a spot, and the arrival there that it knows.
@@ -31,12 +35,12 @@ pub struct State {
     pub mark: Mark,
 }
 
-// The states of the touched cells. Those of a cell stand side by side; `firsts` has 1 plus the place of its first one,
-// by the cell's number, and 0 where the cell isn't touched. The queue's ids are the places.
+// A state for each safe interval that was entered, in the order in which that was first seen. The queue's ids are their
+// places. `newest` has 1 plus the place of a cell's last one, by the cell's number, and 0 where it has none.
 #[derive(Drop)]
 pub struct Arena {
     pub states: Vec<State>,
-    pub firsts: StampedList,
+    pub newest: StampedList,
     pub queue: BucketQueue,
     pub distances: Distances,
 }
@@ -47,7 +51,7 @@ pub fn new_arena(alloc: Global, cells: usize, horizon: u32) -> Result<Arena, Mem
 {
     Ok(Arena {
         states: Vec::new(alloc),
-        firsts: StampedList::new(alloc, cells)?,
+        newest: StampedList::new(alloc, cells)?,
         queue: BucketQueue::new(alloc, horizon)?,
         distances: Distances::new(alloc, cells)?,
     })

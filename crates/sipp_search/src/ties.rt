@@ -6,33 +6,36 @@ ghost use Rattle.fleet_base.specs.Reach.{Reached};
 ghost use Rattle.calendars.specs.Records.{covers};
 ghost use Rattle.calendars.specs.Assignments.{Assignment, Agrees, traffic_by};
 ghost use Rattle.sipp_search.specs.Marks.{final_count, final, queued, spots_of};
-ghost use Rattle.sipp_search.specs.Arena.{IsBlock, HasTimes};
+ghost use Rattle.sipp_search.specs.Arena.{IsArena, AreChained};
+ghost use Rattle.sipp_search.specs.Progress.{HasSeen};
 ghost use Rattle.static_distance.specs.Levels.{IsPlaceOf};
+ghost use Rattle.fleet_base.specs.Terrain.{Terrain};
+ghost use Rattle.fleet_base.specs.declared.grid.Cell.{Cell as ACell};
+ghost use Rattle.fleet_base.specs.declared.request.Request.{Request};
 ghost use Rattle.sipp_search.specs.Running.{IsReady, Serves, KeepsKnown};
 ghost use Rattle.sipp_search.specs.Ties.{IsPaused, HaveRoom, AreTies, TellsArrival, TellsSide, TellsStep, IsUnseenAt, LoadedWhereSince, EarlierThan, IsFirstArrival};
 
 use crate::back::{Hop, push_hop};
-use crate::begin::place_at;
+use crate::chain::{place_at, way_left};
 use crate::expand::side_at;
 use crate::states::{Arena, Mark, State};
 use crate::task::Task;
-use crate::touch::block_of;
 use calendars::{CalendarView, crossing};
 use fleet_base::{Cell, Memory, Side};
 use stamped_list::StampedList;
-use static_distance::{Distances, Place, moves_between, neighbour_at, place_of};
+use static_distance::{Distances, Place, beside, moves_between, neighbour_at, place_of};
 use std::alloc::Global;
 
 // So many moves back it is asked whether a state is reached, before the rest of its key is settled instead.
 const DEPTH: u32 = 1000;
 
 // So many states are looked into that might be reached if all cells were open, before moves from the start are counted:
-// that costs about as much.
+// that many searches never come to.
 const EASY: u32 = 1000;
 
 // What reading back keeps of earlier questions: where the start is and the moves from it, by the cell's number what was told
-// of the cell (twice the time and 1 where it isn't reached by then, and 2 where it is entered then), and how many states were
-// looked into without counting moves.
+// of the cell (twice the time and 1 where it isn't reached then, and 2 where it is reached then first), and how many states
+// were looked into without counting moves.
 #[derive(Drop)]
 pub struct Ties {
     pub start: Place,
@@ -77,21 +80,32 @@ fn forget(task: &Task, ties: &mut Ties) -> Result<(), Memory>
     Ok(())
 }
 
-// Whether the cell is too far from the start to be reached by that time.
+// Whether the place is too far from the start for its cell to be reached by that time, also where all cells are open.
+fn is_far_apart(task: &Task, ties: &Ties, place: Place, time: u32) -> bool
+    requires place { (c : ACell) × (c.0 < length task.now.grid.now.cells) × IsPlaceOf task.now.grid.now c place }
+    requires ties { (known : ℕ → Option (List Record)) × AreTies task.now.grid.now task.now.request known ties.now }
+    ensures far { OnTrue result ((a : Assignment) (c : ACell) → IsPlaceOf task.now.grid.now c place → Reached task.now.grid.now (traffic_by a) task.now.request.start task.now.request.depart c time → ⊥) }
+{
+    let _limits = task.grid.cells();
+    let Some(since) = time.checked_sub(task.request.depart) else {
+        return true;
+    };
+    since < moves_between(place, ties.start)
+}
+
+// The same over the cells that are open. Moves are counted once many cells were looked into.
 fn is_too_far(task: &Task, ties: &mut Ties, cell: Cell, time: u32) -> Result<bool, Memory>
     requires cell { cell.0 < length task.now.grid.now.cells }
     requires fit { HaveRoom (length task.now.grid.now.cells) ties.old }
     requires ties { (known : ℕ → Option (List Record)) × AreTies task.now.grid.now task.now.request known ties.old }
     ensures fit { HaveRoom (length task.now.grid.now.cells) ties.new }
     ensures ties { OnOk result ((known : ℕ → Option (List Record)) → AreTies task.now.grid.now task.now.request known ties.old → AreTies task.now.grid.now task.now.request known ties.new) }
+    ensures asked { OnOk result (ties.new.asked ≡ ties.old.asked) }
     ensures far { IfOk result (λ far. OnTrue far ((a : Assignment) → Reached task.now.grid.now (traffic_by a) task.now.request.start task.now.request.depart cell time → ⊥)) }
 {
     let Some(since) = time.checked_sub(task.request.depart) else {
         return Ok(true);
     };
-    if since < moves_between(place_of(task.grid, cell), ties.start) {
-        return Ok(true);
-    }
     if ties.looked < EASY {
         ties.looked += 1;
         return Ok(false);
@@ -117,28 +131,41 @@ fn seen_by(state: State, time: u32) -> Option<u32>
     Some(arrival)
 }
 
-// Touches a cell while the search pauses.
-fn paused_block<V: CalendarView>(
+// The arrival that is known of the cell in its safe interval that holds the time, where it isn't after the time.
+fn seen_at(arena: &Arena, cell: Cell, time: u32) -> Option<u32>
+    requires cell { cell.0 < length arena.now.newest }
+    requires chained { AreChained (spots_of arena.now.states.items) arena.now.newest }
+    ensures some { IfSome result (λ r. (seen : HasSeen arena.now.states.items cell time) × (seen.arrival ≡ r)) }
+    ensures none { IfNone result ((g : Terrain) (q : Request) (horizon : ℕ) (known : ℕ → Option (List Record)) → IsArena g q.goal horizon known (spots_of arena.now.states.items) arena.now.newest
+        → HasSeen arena.now.states.items cell time → ⊥) }
+{
+    let place = place_at(arena, cell, time)?;
+    seen_by(arena.states[place], time)
+}
+
+// Loads a cell while the search pauses. Whether it is taken at that time.
+fn is_taken<V: CalendarView>(
     task: &Task,
     view: &mut V,
-    arena: &mut Arena,
+    arena: &Arena,
+    ties: &Ties,
     cell: Cell,
-) -> Result<Option<usize>, Memory>
+    time: u32,
+) -> Result<bool, Memory>
     requires ready { IsReady task.now.grid.now task.now.request task.now.horizon (V.size view.old) }
-    requires paused { IsPaused task.now.grid.now task.now.request task.now.horizon (V.known view.old) (V.size view.old) arena.old }
+    requires paused { IsPaused task.now.grid.now task.now.request task.now.horizon (V.known view.old) (V.size view.old) arena.now }
+    requires ties { AreTies task.now.grid.now task.now.request (V.known view.old) ties.now }
     requires cell { cell.0 < V.size view.old }
     ensures cells { V.size view.new ≡ V.size view.old }
     ensures went { V.went view.old view.new }
     ensures kept { KeepsKnown (V.known view.old) (V.known view.new) }
-    ensures serves { Serves task.now.horizon (length task.now.grid.now.cells) arena.new }
-    ensures paused { OnOk result (IsPaused task.now.grid.now task.now.request task.now.horizon (V.known view.new) (V.size view.new) arena.new) }
-    ensures floor { OnOk result (arena.new.queue.floor ≡ arena.old.queue.floor) }
-    ensures count { OnOk result (final_count arena.new.states.items ≡ final_count arena.old.states.items) }
-    ensures block { IfOk result (λ o. IfSome o (λ first. IsBlock task.now.grid.now task.now.request.goal task.now.horizon (V.known view.new) (spots_of arena.new.states.items) cell first)) }
-    ensures times { IfOk result (λ o. IfSome o (λ first. HasTimes task.now.grid.now task.now.request.goal task.now.horizon (V.known view.new) arena.new.queue.floor (spots_of arena.new.states.items) cell first)) }
+    ensures loaded { OnOk result (IsSome (V.known view.new cell.0)) }
+    ensures paused { OnOk result (IsPaused task.now.grid.now task.now.request task.now.horizon (V.known view.new) (V.size view.new) arena.now) }
+    ensures ties { OnOk result (AreTies task.now.grid.now task.now.request (V.known view.new) ties.now) }
+    ensures taken { IfOk result (λ taken. (a : Assignment) → Agrees a (V.known view.new) → covers (a cell.0) time ≡ taken) }
 {
-    let first = block_of(task, view, arena, cell)?;
-    Ok(first)
+    view.load(cell)?;
+    Ok(view.calendar(cell).covers(time))
 }
 
 // Since when the cell is reached in its safe interval that holds the time.
@@ -149,6 +176,7 @@ fn arrival_at<V: CalendarView>(
     arena: &mut Arena,
     ties: &mut Ties,
     cell: Cell,
+    place: Place,
     time: u32,
     depth: u32,
 ) -> Result<Told, Memory>
@@ -156,6 +184,7 @@ fn arrival_at<V: CalendarView>(
     requires paused { IsPaused task.now.grid.now task.now.request task.now.horizon (V.known view.old) (V.size view.old) arena.old }
     requires ties { AreTies task.now.grid.now task.now.request (V.known view.old) ties.old }
     requires cell { cell.0 < V.size view.old }
+    requires place { IsPlaceOf task.now.grid.now cell place }
     requires time { time ≤ task.now.horizon }
     ensures cells { V.size view.new ≡ V.size view.old }
     ensures went { V.went view.old view.new }
@@ -170,30 +199,25 @@ fn arrival_at<V: CalendarView>(
     ensures early { IfOk result (EarlierThan (time + 1)) }
     ensures told { IfOk result (λ told. (a : Assignment) → Agrees a (V.known view.new) → TellsArrival task.now.grid.now task.now.request a cell time told) }
 {
-    let Some(first) = paused_block(task, view, arena, cell)? else {
+    let Some(left) = way_left(task, &*view, arena, cell, place)? else {
         return Ok(Told::Unclear);
     };
-    let Some(place) = place_at(&*arena, first, cell, time) else {
-        return Ok(Told::Never);
-    };
-    let state = arena.states[place];
-    let floor = arena.queue.floor();
-    let Some(room) = floor.checked_sub(time as usize) else {
+    let Some(room) = arena.queue.floor().checked_sub(time as usize) else {
         return Ok(Told::Unclear);
     };
-    if room < state.spot.left as usize {
+    if room < left as usize {
         return Ok(Told::Unclear);
     }
-    if let Some(arrival) = seen_by(state, time) {
+    if let Some(arrival) = seen_at(&*arena, cell, time) {
         return Ok(Told::Since(Hop {
             cell,
             time: arrival,
         }));
     }
-    if (state.spot.left as usize) < room {
+    if (left as usize) < room {
         return Ok(Told::Never);
     }
-    let told = ask(task, view, arena, ties, cell, time, place, depth)?;
+    let told = ask(task, view, arena, ties, cell, place, time, left, depth)?;
     Ok(told)
 }
 
@@ -205,16 +229,18 @@ fn ask<V: CalendarView>(
     arena: &mut Arena,
     ties: &mut Ties,
     cell: Cell,
+    place: Place,
     time: u32,
-    place: usize,
+    left: u32,
     depth: u32,
 ) -> Result<Told, Memory>
     requires ready { IsReady task.now.grid.now task.now.request task.now.horizon (V.size view.old) }
     requires paused { IsPaused task.now.grid.now task.now.request task.now.horizon (V.known view.old) (V.size view.old) arena.old }
     requires ties { AreTies task.now.grid.now task.now.request (V.known view.old) ties.old }
     requires cell { cell.0 < V.size view.old }
+    requires place { IsPlaceOf task.now.grid.now cell place }
     requires time { time ≤ task.now.horizon }
-    requires unseen { IsUnseenAt arena.old.states.items arena.old.queue.floor place cell time }
+    requires unseen { IsUnseenAt task.now.grid.now task.now.request arena.old.states.items arena.old.queue.floor cell time left }
     ensures cells { V.size view.new ≡ V.size view.old }
     ensures went { V.went view.old view.new }
     ensures kept { KeepsKnown (V.known view.old) (V.known view.new) }
@@ -235,13 +261,20 @@ fn ask<V: CalendarView>(
     if told == 2 * time + 2 {
         return Ok(Told::Since(Hop { cell, time }));
     }
+    if is_far_apart(task, &*ties, place, time) {
+        return Ok(Told::Never);
+    }
+    let taken = is_taken(task, view, &*arena, &*ties, cell, time)?;
+    if taken {
+        return Ok(Told::Never);
+    }
     if is_too_far(task, ties, cell, time)? {
         return Ok(Told::Never);
     }
     if depth == 0 {
         return Ok(Told::Unclear);
     }
-    let before = step_back(task, view, arena, ties, cell, time, depth - 1)?;
+    let before = step_back(task, view, arena, ties, cell, place, time, depth - 1)?;
     match before {
         Told::Since(_) => {
             ties.asked.set(cell.0 as usize, 2 * time + 2);
@@ -298,7 +331,8 @@ fn side_back<V: CalendarView>(
     if !task.grid.is_open(cell) {
         return Ok(Told::Never);
     }
-    let told = arrival_at(task, view, arena, ties, cell, entered - 1, depth)?;
+    let from = beside(place, side);
+    let told = arrival_at(task, view, arena, ties, cell, from, entered - 1, depth)?;
     let hop = match told {
         Told::Since(hop) => hop,
         Told::Never => return Ok(Told::Never),
@@ -318,6 +352,7 @@ fn step_back<V: CalendarView>(
     arena: &mut Arena,
     ties: &mut Ties,
     at: Cell,
+    place: Place,
     entered: u32,
     depth: u32,
 ) -> Result<Told, Memory>
@@ -326,6 +361,7 @@ fn step_back<V: CalendarView>(
     requires ties { AreTies task.now.grid.now task.now.request (V.known view.old) ties.old }
     requires known { IsSome (V.known view.old at.0) }
     requires cell { at.0 < V.size view.old }
+    requires place { IsPlaceOf task.now.grid.now at place }
     requires time { entered ≤ task.now.horizon }
     requires free { (a : Assignment) → Agrees a (V.known view.old) → covers (a at.0) entered ≡ false }
     ensures cells { V.size view.new ≡ V.size view.old }
@@ -341,7 +377,6 @@ fn step_back<V: CalendarView>(
     ensures early { IfOk result (EarlierThan entered) }
     ensures told { IfOk result (λ told. (a : Assignment) → Agrees a (V.known view.new) → TellsStep task.now.grid.now task.now.request a at entered told) }
 {
-    let place = place_of(task.grid, at);
     for rank in 0..4 {
         let side = side_at(rank);
         let told = side_back(task, view, arena, ties, at, place, entered, side, depth)?;
@@ -383,12 +418,14 @@ pub fn read_ties<V: CalendarView>(
     let mut cells = Vec::new(alloc);
     let mut at = task.request.goal;
     let mut time = arrival;
-    let mut told = step_back(task, view, arena, ties, at, time, DEPTH)?;
+    let place = place_of(task.grid, at);
+    let mut told = step_back(task, view, arena, ties, at, place, time, DEPTH)?;
     while let Told::Since(hop) = told {
         push_hop(&mut cells, at, hop.cell, time - 1 - hop.time)?;
         at = hop.cell;
         time = hop.time;
-        told = step_back(task, view, arena, ties, at, time, DEPTH)?;
+        let place = place_of(task.grid, at);
+        told = step_back(task, view, arena, ties, at, place, time, DEPTH)?;
     }
     let Told::Never = told else {
         return Ok(None);

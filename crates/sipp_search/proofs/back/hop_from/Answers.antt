@@ -1,4 +1,4 @@
-use Rattle.std.proofs.Common.{arith, subst, sym, ◌≡◌, ◌-◌, ℕ, false}
+use Rattle.std.proofs.Common.{arith, subst, sym, ◌≡◌, ◌<◌, ◌-◌, ℕ, false}
 use Rattle.fleet_base.specs.declared.grid.Cell.{Cell}
 use Rattle.fleet_base.proofs.CanonicalLemmas.{beside_once}
 use Rattle.calendars.specs.Records.{is_exchange}
@@ -12,7 +12,8 @@ neighbour-requires g c =
     let on = c.requires.on in
     let known = final_known c.args.task.now.grid.now c.args.task.now.request c.args.task.now.horizon (g.V.CalendarView.known c.args.view.now) (g.V.CalendarView.size c.args.view.now)
     c.args.arena.now c.requires.sound on.place c.args.entered on.spot c.args.at on.stands on.cell_is in
-    omega (arith, known.1, c.requires.ready.size_is)
+    let below : c.args.at.0 < g.V.CalendarView.size c.args.view.now = g.met.V.CalendarView.below c.args.view.now c.args.at.0 known in
+    omega (arith, below, c.requires.ready.size_is)
 
 pub returns-in_default-last_arrival-clause-none : goal.returns-in_default-last_arrival-clause-none
 returns-in_default-last_arrival-clause-none g c = λ a limit agrees over n u beside time can.
@@ -26,14 +27,14 @@ returns-in_default-last_arrival-clause-none g c = λ a limit agrees over n u bes
 pub calendar-requires : goal.calendar-requires
 calendar-requires g c =
     let has = c.in-Some-last_arrival.ensures.some.0 in
-    (final_known c.args.task.now.grid.now c.args.task.now.request c.args.task.now.horizon (g.V.CalendarView.known c.args.view.now) (g.V.CalendarView.size c.args.view.now)
-    c.args.arena.now c.requires.sound has.place has.arrival has.spot c.in-Some.cell has.stands has.cell_is).0
+    final_known c.args.task.now.grid.now c.args.task.now.request c.args.task.now.horizon (g.V.CalendarView.known c.args.view.now) (g.V.CalendarView.size c.args.view.now)
+    c.args.arena.now c.requires.sound has.place has.arrival has.spot c.in-Some.cell has.stands has.cell_is
 
 pub calendar-requires-2 : goal.calendar-requires-2
 calendar-requires-2 g c =
     let on = c.requires.on in
-    (final_known c.args.task.now.grid.now c.args.task.now.request c.args.task.now.horizon (g.V.CalendarView.known c.args.view.now) (g.V.CalendarView.size c.args.view.now)
-    c.args.arena.now c.requires.sound on.place c.args.entered on.spot c.args.at on.stands on.cell_is).0
+    final_known c.args.task.now.grid.now c.args.task.now.request c.args.task.now.horizon (g.V.CalendarView.known c.args.view.now) (g.V.CalendarView.size c.args.view.now)
+    c.args.arena.now c.requires.sound on.place c.args.entered on.spot c.args.at on.stands on.cell_is
 
 pub returns-clause-hop : goal.returns-clause-hop
 returns-clause-hop g c = λ a limit agrees over.

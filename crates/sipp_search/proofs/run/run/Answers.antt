@@ -34,7 +34,7 @@ returns-in_err-expand-clause-takes g c = λ lists are.
     (let known = g.V.CalendarView.known c.loop-taken.view in
     let sound = settled_sound c.args.task.now.grid.now c.args.task.now.request c.args.task.now.horizon known (g.V.CalendarView.size c.loop-taken.view)
     c.loop-taken.arena c.settle_next.new.arena c.unwrap_or.result c.in-Some.taken c.loop-taken.invariant.sound c.in-Some.ensures.some in
-    let within = states_within c.args.task.now.grid.now c.args.task.now.request c.args.task.now.horizon known (g.V.CalendarView.size c.loop-taken.view) c.settle_next.new.arena lists sound
+    let within = states_within c.args.task.now.grid.now c.args.task.now.request c.args.task.now.horizon known (g.V.CalendarView.size c.loop-taken.view) c.settle_next.new.arena lists (c.loop-taken.invariant.cells ∙ c.requires.ready.size_is) sound
     (lists_before known (g.V.CalendarView.known c.expand.new.view) c.args.task.now.horizon lists c.in_err-expand.ensures.kept are) in
     let grows = interval_grows known (g.V.CalendarView.known c.expand.new.view) lists (g.V.CalendarView.size c.loop-taken.view) c.in_err-expand.ensures.kept in
     rw c.in_err-expand.ensures.cells (omega (arith, c.tick.ensures, c.loop-taken.invariant.count, settled_count c.loop-taken.arena c.settle_next.new.arena c.unwrap_or.result c.in-Some.taken c.in-Some.ensures.some)))
@@ -45,7 +45,7 @@ first_end-found-requires-clause-known g c =
     (stands_map (λ (z : State). z.spot) c.settle_next.new.arena.states.items c.in-Some.taken.id (final c.in-Some.taken.spot c.in-Some.taken.arrival)
     (settled_stands c.loop-taken.arena c.settle_next.new.arena c.unwrap_or.result c.in-Some.taken c.in-Some.ensures.some)) in
     let of = of_arena c.args.task.now.grid.now c.args.task.now.request.goal c.args.task.now.horizon (g.V.CalendarView.known c.expand.new.view) (spots_of c.expand.new.arena.states.items)
-    c.expand.new.arena.firsts c.in-Some.taken.id c.in-Some.taken.spot c.in_ok-expand.ensures.sound.arranged at in
+    c.expand.new.arena.newest c.in-Some.taken.id c.in-Some.taken.spot c.in_ok-expand.ensures.sound.arranged at in
     some_of (g.V.CalendarView.known c.expand.new.view c.in-Some.taken.spot.cell.0) of.records of.known_is
 
 pub first_end-found-requires-clause-safe : goal.first_end-found-requires-clause-safe
@@ -54,7 +54,7 @@ first_end-found-requires-clause-safe g c = λ records is.
     (stands_map (λ (z : State). z.spot) c.settle_next.new.arena.states.items c.in-Some.taken.id (final c.in-Some.taken.spot c.in-Some.taken.arrival)
     (settled_stands c.loop-taken.arena c.settle_next.new.arena c.unwrap_or.result c.in-Some.taken c.in-Some.ensures.some)) in
     let of = of_arena c.args.task.now.grid.now c.args.task.now.request.goal c.args.task.now.horizon (g.V.CalendarView.known c.expand.new.view) (spots_of c.expand.new.arena.states.items)
-    c.expand.new.arena.firsts c.in-Some.taken.id c.in-Some.taken.spot c.in_ok-expand.ensures.sound.arranged at in
+    c.expand.new.arena.newest c.in-Some.taken.id c.in-Some.taken.spot c.in_ok-expand.ensures.sound.arranged at in
     let same : of.records ≡ records = same_Some of.records records (sym of.known_is ∙ is) in
     subst (λ (rs : List Record). IsSafeInterval rs c.args.task.now.horizon c.in-Some.taken.spot.interval) same of.safe)
 
@@ -83,7 +83,7 @@ loop-taken-preserved g c =
     let at = c.in_ok-expand.ensures.spots taken.id taken.spot
     (stands_map (λ (z : State). z.spot) c.settle_next.new.arena.states.items taken.id (final taken.spot taken.arrival)
     (settled_stands c.loop-taken.arena c.settle_next.new.arena c.unwrap_or.result taken settles)) in
-    let of = of_arena terrain q.goal horizon known' (spots_of c.expand.new.arena.states.items) c.expand.new.arena.firsts taken.id taken.spot c.in_ok-expand.ensures.sound.arranged at in
+    let of = of_arena terrain q.goal horizon known' (spots_of c.expand.new.arena.states.items) c.expand.new.arena.newest taken.id taken.spot c.in_ok-expand.ensures.sound.arranged at in
     let left : taken.spot.cell ≡ q.goal → taken.spot.left ≡ 0 = λ same. goal_left terrain q.goal c.requires.ready.bound taken.spot.cell taken.spot.left same of.distance in
     let floor : c.expand.new.arena.queue.floor ≡ taken.arrival + taken.spot.left = c.in_ok-expand.ensures.floor ∙ ap (λ (z : Queue). z.floor) settles.queue_is in
     let inside : IsIn taken.arrival taken.spot.interval =
@@ -105,7 +105,7 @@ loop-taken-preserved g c =
       way = λ a x agrees.
           (let before = agrees_before a known known' c.in_ok-expand.ensures.kept agrees in
           let settled = settled_next_way terrain q horizon a c.requires.ready.bound c.loop-taken.arena c.settle_next.new.arena c.unwrap_or.result taken
-          (spots_right terrain q.goal horizon known (spots_of c.loop-taken.arena.states.items) c.loop-taken.arena.firsts q a refl c.loop-taken.invariant.sound.arranged before)
+          (spots_right terrain q.goal horizon known (spots_of c.loop-taken.arena.states.items) c.loop-taken.arena.newest q a refl c.loop-taken.invariant.sound.arranged before)
           (λ y. c.loop-taken.invariant.way a y before) settles in
           subst (λ (n : ℕ). IsUnderWay terrain q horizon a c.expand.new.arena.states.items n x) (sym c.in_ok-expand.ensures.floor) (c.in_ok-expand.ensures.led a x agrees settled));
       ends = λ a agrees.
@@ -119,7 +119,7 @@ loop-taken-preserved g c =
 pub returns-clause-takes : goal.returns-clause-takes
 returns-clause-takes g c = λ lists are.
     (let within = states_within c.args.task.now.grid.now c.args.task.now.request c.args.task.now.horizon (g.V.CalendarView.known c.loop-taken.view) (g.V.CalendarView.size c.loop-taken.view)
-    c.loop-taken.arena lists c.loop-taken.invariant.sound are in
+    c.loop-taken.arena lists (c.loop-taken.invariant.cells ∙ c.requires.ready.size_is) c.loop-taken.invariant.sound are in
     omega (arith, c.loop-taken.invariant.count))
 
 pub returns-clause-counted : goal.returns-clause-counted
@@ -138,7 +138,7 @@ returns-clause-over g c = λ a agrees.
     let known = g.V.CalendarView.known c.loop-taken.view in
     subst (λ (z : Arena). IsOver terrain q horizon a z.states.items (unwrap_or c.loop-taken.found horizon)) (sym c.in_default.ensures.none)
     (over_now terrain q horizon a c.requires.ready.bound c.loop-taken.arena.states.items c.loop-taken.arena.queue.floor (unwrap_or c.loop-taken.found horizon)
-    (spots_right terrain q.goal horizon known (spots_of c.loop-taken.arena.states.items) c.loop-taken.arena.firsts q a refl c.loop-taken.invariant.sound.arranged agrees)
+    (spots_right terrain q.goal horizon known (spots_of c.loop-taken.arena.states.items) c.loop-taken.arena.newest q a refl c.loop-taken.invariant.sound.arranged agrees)
     (λ x. c.loop-taken.invariant.way a x agrees)
     (λ i r p at. subst (λ (n : ℕ). n < r + p.left) c.unwrap_or.ensures (c.in_default.ensures.above i r p at))
     c.loop-taken.invariant.low c.loop-taken.invariant.in_time))

@@ -1,14 +1,13 @@
-use Rattle.std.proofs.Common.{rules, arith, subst, sym, ap, ◌∙◌, refl, ◌≡◌, ◌<◌, ◌≤◌, ◌+◌, ◌^◌, ℕ, List, length, vec_len, Some, None, slice_get}
+use Rattle.std.proofs.Common.{rules, arith, subst, sym, ap, ◌∙◌, refl, ◌≡◌, ◌<◌, ◌+◌, ◌^◌, ℕ, List, length, vec_len, Some, slice_get}
 use Rattle.std.proofs.lemmas.Option.{same_Some}
 use Rattle.bucket_queue.specs.Queue.{Queue}
 use Rattle.fleet_base.specs.declared.request.Record.{Record}
 use Rattle.calendars.specs.Assignments.{Assignment, Agrees}
 use Rattle.safe_intervals.specs.Safe.{IsIn, IsSafeInterval}
 use Rattle.sipp_search.specs.declared.states.State.{State}
-use Rattle.sipp_search.specs.declared.states.Arena.{Arena}
-use Rattle.sipp_search.specs.Marks.{spots_of, final, final_count}
+use Rattle.sipp_search.specs.Marks.{spots_of, final}
 use Rattle.sipp_search.specs.Progress.{IsUnderWay}
-use Rattle.sipp_search.specs.Running.{IsOver, EndsAt}
+use Rattle.sipp_search.specs.Running.{EndsAt}
 use Rattle.sipp_search.specs.Tabled.{table_from}
 use Rattle.sipp_search.specs.Ties.{IsFirstArrival}
 use Rattle.sipp_search.proofs.Lists.{stands_map}
@@ -42,21 +41,21 @@ pub returns-in_err-expand-clause-takes : goal.returns-in_err-expand-clause-takes
 returns-in_err-expand-clause-takes g c =
     λ lists are.
     (let sound = settled_sound c.args.task.now.grid.now c.args.task.now.request c.args.task.now.horizon (g.V.CalendarView.known c.loop-taken.view) (g.V.CalendarView.size c.loop-taken.view) c.loop-taken.arena c.settle_next.new.arena c.args.task.now.horizon c.in-Some.taken c.loop-taken.invariant.sound c.in-Some.ensures.some in
-    let within = states_within c.args.task.now.grid.now c.args.task.now.request c.args.task.now.horizon (g.V.CalendarView.known c.loop-taken.view) (g.V.CalendarView.size c.loop-taken.view) c.settle_next.new.arena lists sound (lists_before (g.V.CalendarView.known c.loop-taken.view) (g.V.CalendarView.known c.expand.new.view) c.args.task.now.horizon lists c.in_err-expand.ensures.kept are) in
+    let within = states_within c.args.task.now.grid.now c.args.task.now.request c.args.task.now.horizon (g.V.CalendarView.known c.loop-taken.view) (g.V.CalendarView.size c.loop-taken.view) c.settle_next.new.arena lists (c.loop-taken.invariant.cells ∙ c.requires.ready.size_is) sound (lists_before (g.V.CalendarView.known c.loop-taken.view) (g.V.CalendarView.known c.expand.new.view) c.args.task.now.horizon lists c.in_err-expand.ensures.kept are) in
     let grows = interval_grows (g.V.CalendarView.known c.loop-taken.view) (g.V.CalendarView.known c.expand.new.view) lists (g.V.CalendarView.size c.loop-taken.view) c.in_err-expand.ensures.kept in
     rw c.in_err-expand.ensures.cells (omega (arith, c.tick.ensures, c.loop-taken.invariant.count, settled_count c.loop-taken.arena c.settle_next.new.arena c.args.task.now.horizon c.in-Some.taken c.in-Some.ensures.some)))
 
 pub returns-clause-takes : goal.returns-clause-takes
 returns-clause-takes g c =
     λ lists are.
-    (let within = states_within c.args.task.now.grid.now c.args.task.now.request c.args.task.now.horizon (g.V.CalendarView.known c.loop-taken.view) (g.V.CalendarView.size c.loop-taken.view) c.loop-taken.arena lists c.loop-taken.invariant.sound are in
+    (let within = states_within c.args.task.now.grid.now c.args.task.now.request c.args.task.now.horizon (g.V.CalendarView.known c.loop-taken.view) (g.V.CalendarView.size c.loop-taken.view) c.loop-taken.arena lists (c.loop-taken.invariant.cells ∙ c.requires.ready.size_is) c.loop-taken.invariant.sound are in
     omega (arith, c.loop-taken.invariant.count))
 
 pub may_end-requires-clause-known : goal.may_end-requires-clause-known
 may_end-requires-clause-known g c =
     let at = c.in_ok-expand.ensures.spots c.in-Some.taken.id c.in-Some.taken.spot
     (stands_map (λ (z : State). z.spot) c.settle_next.new.arena.states.items c.in-Some.taken.id (final c.in-Some.taken.spot c.in-Some.taken.arrival) (settled_stands c.loop-taken.arena c.settle_next.new.arena c.args.task.now.horizon c.in-Some.taken c.in-Some.ensures.some)) in
-    let of = of_arena c.args.task.now.grid.now c.args.task.now.request.goal c.args.task.now.horizon (g.V.CalendarView.known c.expand.new.view) (spots_of c.expand.new.arena.states.items) c.expand.new.arena.firsts c.in-Some.taken.id c.in-Some.taken.spot c.in_ok-expand.ensures.sound.arranged at in
+    let of = of_arena c.args.task.now.grid.now c.args.task.now.request.goal c.args.task.now.horizon (g.V.CalendarView.known c.expand.new.view) (spots_of c.expand.new.arena.states.items) c.expand.new.arena.newest c.in-Some.taken.id c.in-Some.taken.spot c.in_ok-expand.ensures.sound.arranged at in
     some_of (g.V.CalendarView.known c.expand.new.view c.in-Some.taken.spot.cell.0) of.records of.known_is
 
 pub may_end-requires-clause-safe : goal.may_end-requires-clause-safe
@@ -64,14 +63,14 @@ may_end-requires-clause-safe g c =
     λ records is.
     (let at = c.in_ok-expand.ensures.spots c.in-Some.taken.id c.in-Some.taken.spot
     (stands_map (λ (z : State). z.spot) c.settle_next.new.arena.states.items c.in-Some.taken.id (final c.in-Some.taken.spot c.in-Some.taken.arrival) (settled_stands c.loop-taken.arena c.settle_next.new.arena c.args.task.now.horizon c.in-Some.taken c.in-Some.ensures.some)) in
-    let of = of_arena c.args.task.now.grid.now c.args.task.now.request.goal c.args.task.now.horizon (g.V.CalendarView.known c.expand.new.view) (spots_of c.expand.new.arena.states.items) c.expand.new.arena.firsts c.in-Some.taken.id c.in-Some.taken.spot c.in_ok-expand.ensures.sound.arranged at in
+    let of = of_arena c.args.task.now.grid.now c.args.task.now.request.goal c.args.task.now.horizon (g.V.CalendarView.known c.expand.new.view) (spots_of c.expand.new.arena.states.items) c.expand.new.arena.newest c.in-Some.taken.id c.in-Some.taken.spot c.in_ok-expand.ensures.sound.arranged at in
     let same : of.records ≡ records = same_Some of.records records (sym of.known_is ∙ is) in
     subst (λ (rs : List Record). IsSafeInterval rs c.args.task.now.horizon c.in-Some.taken.spot.interval) same of.safe)
 
 pub returns-then-may_end-clause-takes : goal.returns-then-may_end-clause-takes
 returns-then-may_end-clause-takes g c =
     λ lists are.
-    (let within = states_within c.args.task.now.grid.now c.args.task.now.request c.args.task.now.horizon (g.V.CalendarView.known c.expand.new.view) (g.V.CalendarView.size c.expand.new.view) c.expand.new.arena lists c.in_ok-expand.ensures.sound are in
+    (let within = states_within c.args.task.now.grid.now c.args.task.now.request c.args.task.now.horizon (g.V.CalendarView.known c.expand.new.view) (g.V.CalendarView.size c.expand.new.view) c.expand.new.arena lists (c.in_ok-expand.ensures.cells ∙ (c.loop-taken.invariant.cells ∙ c.requires.ready.size_is)) c.in_ok-expand.ensures.sound are in
     omega (arith, c.tick.ensures, c.loop-taken.invariant.count, c.in_ok-expand.ensures.improves.count, settled_count c.loop-taken.arena c.settle_next.new.arena c.args.task.now.horizon c.in-Some.taken c.in-Some.ensures.some))
 
 pub returns-then-may_end-clause-counted : goal.returns-then-may_end-clause-counted
@@ -82,7 +81,7 @@ pub returns-then-may_end-clause-paused : goal.returns-then-may_end-clause-paused
 returns-then-may_end-clause-paused g c =
     let at = c.in_ok-expand.ensures.spots c.in-Some.taken.id c.in-Some.taken.spot
     (stands_map (λ (z : State). z.spot) c.settle_next.new.arena.states.items c.in-Some.taken.id (final c.in-Some.taken.spot c.in-Some.taken.arrival) (settled_stands c.loop-taken.arena c.settle_next.new.arena c.args.task.now.horizon c.in-Some.taken c.in-Some.ensures.some)) in
-    let of = of_arena c.args.task.now.grid.now c.args.task.now.request.goal c.args.task.now.horizon (g.V.CalendarView.known c.expand.new.view) (spots_of c.expand.new.arena.states.items) c.expand.new.arena.firsts c.in-Some.taken.id c.in-Some.taken.spot c.in_ok-expand.ensures.sound.arranged at in
+    let of = of_arena c.args.task.now.grid.now c.args.task.now.request.goal c.args.task.now.horizon (g.V.CalendarView.known c.expand.new.view) (spots_of c.expand.new.arena.states.items) c.expand.new.arena.newest c.in-Some.taken.id c.in-Some.taken.spot c.in_ok-expand.ensures.sound.arranged at in
     let more = one_more_of c.loop-taken.arena c.settle_next.new.arena c.expand.new.arena.states.items c.args.task.now.horizon c.in-Some.taken c.in-Some.ensures.some c.in_ok-expand.ensures.improves in
     let floor : c.expand.new.arena.queue.floor ≡ c.in-Some.taken.arrival + c.in-Some.taken.spot.left = c.in_ok-expand.ensures.floor ∙ ap (λ (z : Queue). z.floor) c.in-Some.ensures.some.queue_is in
     let yes = c.if-may_end.ensures.yes in
@@ -100,7 +99,7 @@ returns-then-may_end-clause-paused g c =
         way = λ a x agrees.
             (let before = agrees_before a (g.V.CalendarView.known c.loop-taken.view) (g.V.CalendarView.known c.expand.new.view) c.in_ok-expand.ensures.kept agrees in
             let settled = settled_next_way c.args.task.now.grid.now c.args.task.now.request c.args.task.now.horizon a c.requires.ready.bound c.loop-taken.arena c.settle_next.new.arena c.args.task.now.horizon c.in-Some.taken
-            (spots_right c.args.task.now.grid.now c.args.task.now.request.goal c.args.task.now.horizon (g.V.CalendarView.known c.loop-taken.view) (spots_of c.loop-taken.arena.states.items) c.loop-taken.arena.firsts c.args.task.now.request a refl c.loop-taken.invariant.sound.arranged before)
+            (spots_right c.args.task.now.grid.now c.args.task.now.request.goal c.args.task.now.horizon (g.V.CalendarView.known c.loop-taken.view) (spots_of c.loop-taken.arena.states.items) c.loop-taken.arena.newest c.args.task.now.request a refl c.loop-taken.invariant.sound.arranged before)
             (λ y. c.loop-taken.invariant.way a y before) c.in-Some.ensures.some in
             subst (λ (n : ℕ). IsUnderWay c.args.task.now.grid.now c.args.task.now.request c.args.task.now.horizon a c.expand.new.arena.states.items n x) (sym c.in_ok-expand.ensures.floor) (c.in_ok-expand.ensures.led a x agrees settled));
       },
@@ -111,7 +110,7 @@ pub returns-then-may_end-clause-first : goal.returns-then-may_end-clause-first
 returns-then-may_end-clause-first g c =
     let at = c.in_ok-expand.ensures.spots c.in-Some.taken.id c.in-Some.taken.spot
     (stands_map (λ (z : State). z.spot) c.settle_next.new.arena.states.items c.in-Some.taken.id (final c.in-Some.taken.spot c.in-Some.taken.arrival) (settled_stands c.loop-taken.arena c.settle_next.new.arena c.args.task.now.horizon c.in-Some.taken c.in-Some.ensures.some)) in
-    let of = of_arena c.args.task.now.grid.now c.args.task.now.request.goal c.args.task.now.horizon (g.V.CalendarView.known c.expand.new.view) (spots_of c.expand.new.arena.states.items) c.expand.new.arena.firsts c.in-Some.taken.id c.in-Some.taken.spot c.in_ok-expand.ensures.sound.arranged at in
+    let of = of_arena c.args.task.now.grid.now c.args.task.now.request.goal c.args.task.now.horizon (g.V.CalendarView.known c.expand.new.view) (spots_of c.expand.new.arena.states.items) c.expand.new.arena.newest c.in-Some.taken.id c.in-Some.taken.spot c.in_ok-expand.ensures.sound.arranged at in
     let more = one_more_of c.loop-taken.arena c.settle_next.new.arena c.expand.new.arena.states.items c.args.task.now.horizon c.in-Some.taken c.in-Some.ensures.some c.in_ok-expand.ensures.improves in
     let floor : c.expand.new.arena.queue.floor ≡ c.in-Some.taken.arrival + c.in-Some.taken.spot.left = c.in_ok-expand.ensures.floor ∙ ap (λ (z : Queue). z.floor) c.in-Some.ensures.some.queue_is in
     let yes = c.if-may_end.ensures.yes in
@@ -122,21 +121,21 @@ returns-then-may_end-clause-first g c =
     let way : (a : Assignment) (x : ℕ) → Agrees a (g.V.CalendarView.known c.expand.new.view) → IsUnderWay c.args.task.now.grid.now c.args.task.now.request c.args.task.now.horizon a c.expand.new.arena.states.items c.expand.new.arena.queue.floor x = λ a x agrees.
     (let before = agrees_before a (g.V.CalendarView.known c.loop-taken.view) (g.V.CalendarView.known c.expand.new.view) c.in_ok-expand.ensures.kept agrees in
     let settled = settled_next_way c.args.task.now.grid.now c.args.task.now.request c.args.task.now.horizon a c.requires.ready.bound c.loop-taken.arena c.settle_next.new.arena c.args.task.now.horizon c.in-Some.taken
-    (spots_right c.args.task.now.grid.now c.args.task.now.request.goal c.args.task.now.horizon (g.V.CalendarView.known c.loop-taken.view) (spots_of c.loop-taken.arena.states.items) c.loop-taken.arena.firsts c.args.task.now.request a refl c.loop-taken.invariant.sound.arranged before)
+    (spots_right c.args.task.now.grid.now c.args.task.now.request.goal c.args.task.now.horizon (g.V.CalendarView.known c.loop-taken.view) (spots_of c.loop-taken.arena.states.items) c.loop-taken.arena.newest c.args.task.now.request a refl c.loop-taken.invariant.sound.arranged before)
     (λ y. c.loop-taken.invariant.way a y before) c.in-Some.ensures.some in
     subst (λ (n : ℕ). IsUnderWay c.args.task.now.grid.now c.args.task.now.request c.args.task.now.horizon a c.expand.new.arena.states.items n x) (sym c.in_ok-expand.ensures.floor) (c.in_ok-expand.ensures.led a x agrees settled)) in
     λ a agrees.
     (let ends = ends_found c.args.task.now.request a c.loop-taken.arena.states.items c.expand.new.arena.states.items c.in-Some.taken.id c.in-Some.taken.arrival c.in-Some.taken.spot more (c.loop-taken.invariant.ends a (agrees_before a (g.V.CalendarView.known c.loop-taken.view) (g.V.CalendarView.known c.expand.new.view) c.in_ok-expand.ensures.kept agrees)) yes.0 (λ t at'. yes.1 a agrees t at') inside in
     subst (λ (n : ℕ). IsFirstArrival c.args.task.now.grid.now c.args.task.now.request a n) time
     (first_arrival c.args.task.now.grid.now c.args.task.now.request c.args.task.now.horizon a c.requires.ready.bound c.expand.new.arena.states.items c.expand.new.arena.queue.floor
-    (spots_right c.args.task.now.grid.now c.args.task.now.request.goal c.args.task.now.horizon (g.V.CalendarView.known c.expand.new.view) (spots_of c.expand.new.arena.states.items) c.expand.new.arena.firsts c.args.task.now.request a refl c.in_ok-expand.ensures.sound.arranged agrees)
+    (spots_right c.args.task.now.grid.now c.args.task.now.request.goal c.args.task.now.horizon (g.V.CalendarView.known c.expand.new.view) (spots_of c.expand.new.arena.states.items) c.expand.new.arena.newest c.args.task.now.request a refl c.in_ok-expand.ensures.sound.arranged agrees)
     (λ x. way a x agrees) (omega (arith, c.in-Some.ensures.some.in_limit)) (subst (λ (n : ℕ). EndsAt c.args.task.now.request a c.expand.new.arena.states.items n) (sym time) ends)))
 
 pub loop-taken-preserved : goal.loop-taken-preserved
 loop-taken-preserved g c =
     let at = c.in_ok-expand.ensures.spots c.in-Some.taken.id c.in-Some.taken.spot
     (stands_map (λ (z : State). z.spot) c.settle_next.new.arena.states.items c.in-Some.taken.id (final c.in-Some.taken.spot c.in-Some.taken.arrival) (settled_stands c.loop-taken.arena c.settle_next.new.arena c.args.task.now.horizon c.in-Some.taken c.in-Some.ensures.some)) in
-    let of = of_arena c.args.task.now.grid.now c.args.task.now.request.goal c.args.task.now.horizon (g.V.CalendarView.known c.expand.new.view) (spots_of c.expand.new.arena.states.items) c.expand.new.arena.firsts c.in-Some.taken.id c.in-Some.taken.spot c.in_ok-expand.ensures.sound.arranged at in
+    let of = of_arena c.args.task.now.grid.now c.args.task.now.request.goal c.args.task.now.horizon (g.V.CalendarView.known c.expand.new.view) (spots_of c.expand.new.arena.states.items) c.expand.new.arena.newest c.in-Some.taken.id c.in-Some.taken.spot c.in_ok-expand.ensures.sound.arranged at in
     let more = one_more_of c.loop-taken.arena c.settle_next.new.arena c.expand.new.arena.states.items c.args.task.now.horizon c.in-Some.taken c.in-Some.ensures.some c.in_ok-expand.ensures.improves in
     let floor : c.expand.new.arena.queue.floor ≡ c.in-Some.taken.arrival + c.in-Some.taken.spot.left = c.in_ok-expand.ensures.floor ∙ ap (λ (z : Queue). z.floor) c.in-Some.ensures.some.queue_is in
     record {
@@ -149,7 +148,7 @@ loop-taken-preserved g c =
       way = λ a x agrees.
           (let before = agrees_before a (g.V.CalendarView.known c.loop-taken.view) (g.V.CalendarView.known c.expand.new.view) c.in_ok-expand.ensures.kept agrees in
           let settled = settled_next_way c.args.task.now.grid.now c.args.task.now.request c.args.task.now.horizon a c.requires.ready.bound c.loop-taken.arena c.settle_next.new.arena c.args.task.now.horizon c.in-Some.taken
-          (spots_right c.args.task.now.grid.now c.args.task.now.request.goal c.args.task.now.horizon (g.V.CalendarView.known c.loop-taken.view) (spots_of c.loop-taken.arena.states.items) c.loop-taken.arena.firsts c.args.task.now.request a refl c.loop-taken.invariant.sound.arranged before)
+          (spots_right c.args.task.now.grid.now c.args.task.now.request.goal c.args.task.now.horizon (g.V.CalendarView.known c.loop-taken.view) (spots_of c.loop-taken.arena.states.items) c.loop-taken.arena.newest c.args.task.now.request a refl c.loop-taken.invariant.sound.arranged before)
           (λ y. c.loop-taken.invariant.way a y before) c.in-Some.ensures.some in
           subst (λ (n : ℕ). IsUnderWay c.args.task.now.grid.now c.args.task.now.request c.args.task.now.horizon a c.expand.new.arena.states.items n x) (sym c.in_ok-expand.ensures.floor) (c.in_ok-expand.ensures.led a x agrees settled));
       ends = λ a agrees.
@@ -162,5 +161,5 @@ returns-clause-none g c =
     λ a agrees.
     (none_right c.args.task.now.grid.now c.args.task.now.request c.args.task.now.horizon a c.requires.ready.bound c.loop-taken.arena.states.items (table_from c.loop-taken.arena.states.items)
     (over_now c.args.task.now.grid.now c.args.task.now.request c.args.task.now.horizon a c.requires.ready.bound c.loop-taken.arena.states.items c.loop-taken.arena.queue.floor c.args.task.now.horizon
-    (spots_right c.args.task.now.grid.now c.args.task.now.request.goal c.args.task.now.horizon (g.V.CalendarView.known c.loop-taken.view) (spots_of c.loop-taken.arena.states.items) c.loop-taken.arena.firsts c.args.task.now.request a refl c.loop-taken.invariant.sound.arranged agrees)
+    (spots_right c.args.task.now.grid.now c.args.task.now.request.goal c.args.task.now.horizon (g.V.CalendarView.known c.loop-taken.view) (spots_of c.loop-taken.arena.states.items) c.loop-taken.arena.newest c.args.task.now.request a refl c.loop-taken.invariant.sound.arranged agrees)
     (λ x. c.loop-taken.invariant.way a x agrees) c.in_default.ensures.above c.loop-taken.invariant.low (omega arith)) (c.loop-taken.invariant.ends a agrees) refl).none

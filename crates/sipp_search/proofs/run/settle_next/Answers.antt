@@ -41,7 +41,7 @@ returns-clause-some c =
       in_limit = subst (λ (n : ℕ). n ≤ c.args.limit) key took.in_limit;
       rises = subst (λ (n : ℕ). c.args.arena.now.queue.floor ≤ n) key took.rises;
       states_are = refl;
-      firsts_are = refl;
+      newest_are = refl;
       distances_are = refl;
       queue_is = took.taken
           ∙ (ap (λ (xs : List (Option ℕ)). record { keys = xs; floor = took.arrival + took.spot.left; bound = c.args.arena.now.queue.bound })

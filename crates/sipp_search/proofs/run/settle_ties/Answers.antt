@@ -1,22 +1,13 @@
-use Rattle.std.proofs.Common.{rules, arith, subst, sym, ap, ◌∙◌, refl, ◌≡◌, ◌<◌, ◌≤◌, ◌+◌, ◌^◌, ℕ, List, length, vec_len, Some, None, slice_get}
-use Rattle.std.proofs.lemmas.Option.{same_Some}
+use Rattle.std.proofs.Common.{rules, arith, subst, sym, ap, ◌∙◌, refl, ◌≡◌, ◌<◌, ◌+◌, ◌^◌, ℕ, length, vec_len, Some, slice_get}
 use Rattle.bucket_queue.specs.Queue.{Queue}
-use Rattle.fleet_base.specs.declared.request.Record.{Record}
-use Rattle.safe_intervals.specs.Safe.{IsIn, IsSafeInterval}
-use Rattle.sipp_search.specs.declared.states.State.{State}
 use Rattle.sipp_search.specs.declared.states.Arena.{Arena}
-use Rattle.sipp_search.specs.Marks.{spots_of, final, final_count}
+use Rattle.sipp_search.specs.Marks.{spots_of, final}
 use Rattle.sipp_search.specs.Progress.{IsUnderWay}
-use Rattle.sipp_search.specs.Running.{IsOver, EndsAt}
-use Rattle.sipp_search.specs.Tabled.{table_from}
-use Rattle.sipp_search.specs.Ties.{IsFirstArrival}
-use Rattle.sipp_search.proofs.Lists.{stands_map}
+use Rattle.sipp_search.specs.Running.{IsOver}
 use Rattle.sipp_search.proofs.Marking.{count_within}
-use Rattle.sipp_search.proofs.Blocks.{of_arena, spots_right}
-use Rattle.sipp_search.proofs.Moving.{kept_twice, agrees_before, some_of}
-use Rattle.sipp_search.proofs.Answering.{none_right}
-use Rattle.sipp_search.proofs.Paused.{first_arrival}
-use Rattle.sipp_search.proofs.Ending.{over_now, settled_next_way, settled_count, settled_stands, settled_sound, one_more_of, goal_left, lists_before, interval_grows, states_within, queued_inside, ends_found, ends_none}
+use Rattle.sipp_search.proofs.Blocks.{spots_right}
+use Rattle.sipp_search.proofs.Moving.{kept_twice, agrees_before}
+use Rattle.sipp_search.proofs.Ending.{over_now, settled_next_way, settled_count, settled_stands, settled_sound, one_more_of, lists_before, interval_grows, states_within, queued_inside}
 use Rattle.sipp_search.proofs.run.settle_ties.Goals as goal
 
 pub expand-requires-clause-sound : goal.expand-requires-clause-sound
@@ -41,14 +32,14 @@ pub returns-in_err-expand-clause-takes : goal.returns-in_err-expand-clause-takes
 returns-in_err-expand-clause-takes g c =
     λ lists are.
     (let sound = settled_sound c.args.task.now.grid.now c.args.task.now.request c.args.task.now.horizon (g.V.CalendarView.known c.loop-taken.view) (g.V.CalendarView.size c.loop-taken.view) c.loop-taken.arena c.settle_next.new.arena c.args.limit c.in-Some.taken c.loop-taken.invariant.paused.sound c.in-Some.ensures.some in
-    let within = states_within c.args.task.now.grid.now c.args.task.now.request c.args.task.now.horizon (g.V.CalendarView.known c.loop-taken.view) (g.V.CalendarView.size c.loop-taken.view) c.settle_next.new.arena lists sound (lists_before (g.V.CalendarView.known c.loop-taken.view) (g.V.CalendarView.known c.expand.new.view) c.args.task.now.horizon lists c.in_err-expand.ensures.kept are) in
+    let within = states_within c.args.task.now.grid.now c.args.task.now.request c.args.task.now.horizon (g.V.CalendarView.known c.loop-taken.view) (g.V.CalendarView.size c.loop-taken.view) c.settle_next.new.arena lists (c.loop-taken.invariant.cells ∙ c.requires.ready.size_is) sound (lists_before (g.V.CalendarView.known c.loop-taken.view) (g.V.CalendarView.known c.expand.new.view) c.args.task.now.horizon lists c.in_err-expand.ensures.kept are) in
     let grows = interval_grows (g.V.CalendarView.known c.loop-taken.view) (g.V.CalendarView.known c.expand.new.view) lists (g.V.CalendarView.size c.loop-taken.view) c.in_err-expand.ensures.kept in
     rw c.in_err-expand.ensures.cells (omega (arith, c.tick.ensures, c.loop-taken.invariant.count, settled_count c.loop-taken.arena c.settle_next.new.arena c.args.limit c.in-Some.taken c.in-Some.ensures.some)))
 
 pub returns-clause-takes : goal.returns-clause-takes
 returns-clause-takes g c =
     λ lists are.
-    (let within = states_within c.args.task.now.grid.now c.args.task.now.request c.args.task.now.horizon (g.V.CalendarView.known c.loop-taken.view) (g.V.CalendarView.size c.loop-taken.view) c.loop-taken.arena lists c.loop-taken.invariant.paused.sound are in
+    (let within = states_within c.args.task.now.grid.now c.args.task.now.request c.args.task.now.horizon (g.V.CalendarView.known c.loop-taken.view) (g.V.CalendarView.size c.loop-taken.view) c.loop-taken.arena lists (c.loop-taken.invariant.cells ∙ c.requires.ready.size_is) c.loop-taken.invariant.paused.sound are in
     omega (arith, c.loop-taken.invariant.count))
 
 pub loop-taken-preserved : goal.loop-taken-preserved
@@ -73,7 +64,7 @@ loop-taken-preserved g c =
         way = λ a x agrees.
             (let before = agrees_before a (g.V.CalendarView.known c.loop-taken.view) (g.V.CalendarView.known c.expand.new.view) c.in_ok-expand.ensures.kept agrees in
             let settled = settled_next_way c.args.task.now.grid.now c.args.task.now.request c.args.task.now.horizon a c.requires.ready.bound c.loop-taken.arena c.settle_next.new.arena c.args.limit c.in-Some.taken
-            (spots_right c.args.task.now.grid.now c.args.task.now.request.goal c.args.task.now.horizon (g.V.CalendarView.known c.loop-taken.view) (spots_of c.loop-taken.arena.states.items) c.loop-taken.arena.firsts c.args.task.now.request a refl c.loop-taken.invariant.paused.sound.arranged before)
+            (spots_right c.args.task.now.grid.now c.args.task.now.request.goal c.args.task.now.horizon (g.V.CalendarView.known c.loop-taken.view) (spots_of c.loop-taken.arena.states.items) c.loop-taken.arena.newest c.args.task.now.request a refl c.loop-taken.invariant.paused.sound.arranged before)
             (λ y. c.loop-taken.invariant.paused.way a y before) c.in-Some.ensures.some in
             subst (λ (n : ℕ). IsUnderWay c.args.task.now.grid.now c.args.task.now.request c.args.task.now.horizon a c.expand.new.arena.states.items n x) (sym c.in_ok-expand.ensures.floor) (c.in_ok-expand.ensures.led a x agrees settled));
       };
@@ -87,5 +78,5 @@ returns-clause-over g c =
     λ a agrees.
     subst (λ (z : Arena). IsOver c.args.task.now.grid.now c.args.task.now.request c.args.task.now.horizon a z.states.items c.args.limit) (sym c.in_default.ensures.none)
     (over_now c.args.task.now.grid.now c.args.task.now.request c.args.task.now.horizon a c.requires.ready.bound c.loop-taken.arena.states.items c.loop-taken.arena.queue.floor c.args.limit
-    (spots_right c.args.task.now.grid.now c.args.task.now.request.goal c.args.task.now.horizon (g.V.CalendarView.known c.loop-taken.view) (spots_of c.loop-taken.arena.states.items) c.loop-taken.arena.firsts c.args.task.now.request a refl c.loop-taken.invariant.paused.sound.arranged agrees)
+    (spots_right c.args.task.now.grid.now c.args.task.now.request.goal c.args.task.now.horizon (g.V.CalendarView.known c.loop-taken.view) (spots_of c.loop-taken.arena.states.items) c.loop-taken.arena.newest c.args.task.now.request a refl c.loop-taken.invariant.paused.sound.arranged agrees)
     (λ x. c.loop-taken.invariant.paused.way a x agrees) c.in_default.ensures.above (omega (arith, c.loop-taken.invariant.floor)) (omega (arith, c.loop-taken.invariant.floor, c.loop-taken.invariant.paused.in_time)))

@@ -1,4 +1,4 @@
-use Rattle.std.proofs.Common.{◌≡◌, ℕ, ◌≤◌, ◌-◌, ◌+◌, ◌^◌}
+use Rattle.std.proofs.Common.{◌≡◌, ◌≤◌, ◌-◌, ◌+◌, ◌^◌}
 use Rattle.sipp_search.specs.Marks.{final_count}
 use Rattle.sipp_search.specs.Running.{KeepsKnown}
 use Rattle.sipp_search.specs.Ties.{IsPaused}

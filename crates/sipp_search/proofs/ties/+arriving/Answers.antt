@@ -1,98 +1,96 @@
-use Rattle.std.proofs.Common.{rules, arith, subst, sym, ap, ◌∙◌, refl, inl, inr, ◌≡◌, ◌≤◌, ◌<◌, ◌+◌, ◌-◌, ℕ, length, vec_len, Some, slice_get, true, false}
+use Rattle.std.proofs.Common.{arith, subst, sym, ◌∙◌, refl, inl, inr, ◌≡◌, ◌-◌, ℕ, true, false}
 use Rattle.std.proofs.lemmas.Bool.{cases_lt, false≢true}
-use Rattle.std.proofs.lemmas.Option.{slice_get_within, get_or_from_slice_get}
 use Rattle.fleet_base.specs.declared.grid.Cell.{Cell}
 use Rattle.fleet_base.specs.declared.grid.Side.{Side}
 use Rattle.fleet_base.specs.Terrain.{IsBeside}
 use Rattle.fleet_base.specs.Canonical.{rank_of, IsEarliest}
 use Rattle.fleet_base.proofs.CanonicalLemmas.{beside_once}
 use Rattle.fleet_base.proofs.ReachLemmas.{steps_from_walk}
-use Rattle.calendars.specs.Records.{is_exchange, covers}
+use Rattle.calendars.specs.Records.{is_exchange}
 use Rattle.calendars.specs.Assignments.{traffic_by}
-use Rattle.safe_intervals.specs.Safe.{IsIn}
-use Rattle.sipp_search.specs.declared.states.State.{State}
 use Rattle.sipp_search.specs.Back.{NoneFrom}
 use Rattle.sipp_search.specs.Ties.{IsUnseenAt}
-use Rattle.sipp_search.proofs.Moves.{IsReached, reached_open, beside_differs}
+use Rattle.sipp_search.proofs.Moves.{IsReached, reached_free, reached_open, beside_differs}
 use Rattle.sipp_search.proofs.Moving.{kept_twice, agrees_before, same_side, rank_low}
-use Rattle.sipp_search.proofs.Paused.{paused_there, paused_known, paused_below, paused_beside, paused_entered, paused_free, unseen_loaded, some_kept, ready_kept, ties_kept, ties_missed, ties_entered, side_found}
+use Rattle.sipp_search.proofs.Paused.{paused_counted, paused_seen, paused_below, paused_beside, paused_entered, seen_loaded, some_kept, ready_kept, ties_missed, ties_entered, side_found}
 use Rattle.sipp_search.proofs.ties.+arriving.Goals as goal
 
-pub arrival_at-returns-in_default-place_at-clause-told : goal.arrival_at-returns-in_default-place_at-clause-told
-arrival_at-returns-in_default-place_at-clause-told g t c =
-    λ a agrees.
-    paused_there c.args.task.now.grid.now c.args.task.now.request c.args.task.now.horizon (g.V.CalendarView.known c.paused_block.new.view) (g.V.CalendarView.size c.paused_block.new.view) c.paused_block.new.arena c.requires.ready.bound c.in_ok-first.ensures.paused a agrees c.args.cell c.in-Some.first c.args.time (rw c.in-Some.is at c.in_ok-first.ensures.block) (rw c.in-Some.is at c.in_ok-first.ensures.times) c.requires.time
-    (c.in_default-place_at.ensures.none c.args.task.now.grid.now c.args.task.now.request.goal c.args.task.now.horizon (g.V.CalendarView.known c.paused_block.new.view) (rw c.in-Some.is at c.in_ok-first.ensures.block))
+pub arrival_at-returns-in_default-clause-paused : goal.arrival_at-returns-in_default-clause-paused
+arrival_at-returns-in_default-clause-paused g t c =
+    paused_counted c.args.task.now.grid.now c.args.task.now.request c.args.task.now.horizon (g.V.CalendarView.known c.args.view.now) (g.V.CalendarView.size c.args.view.now) c.args.arena.now c.way_left.new.arena c.requires.paused c.in_ok-left.ensures.sound c.in_ok-left.ensures.states c.in_ok-left.ensures.queue
 
-pub arrival_at-index-state-requires : goal.arrival_at-index-state-requires
-arrival_at-index-state-requires g t c =
-    let there = c.in-Some-place_at.ensures.some in
-    let len : vec_len c.paused_block.new.arena.states ≡ length c.paused_block.new.arena.states.items = search rules in
-    omega (arith, slice_get_within c.paused_block.new.arena.states.items c.in-Some-place_at.place there.0 there.1)
+pub arrival_at-returns-in_default-checked_sub-clause-paused : goal.arrival_at-returns-in_default-checked_sub-clause-paused
+arrival_at-returns-in_default-checked_sub-clause-paused g t c =
+    paused_counted c.args.task.now.grid.now c.args.task.now.request c.args.task.now.horizon (g.V.CalendarView.known c.args.view.now) (g.V.CalendarView.size c.args.view.now) c.args.arena.now c.way_left.new.arena c.requires.paused c.in_ok-left.ensures.sound c.in_ok-left.ensures.states c.in_ok-left.ensures.queue
 
-pub arrival_at-returns-in-Some-seen_by-clause-told : goal.arrival_at-returns-in-Some-seen_by-clause-told
-arrival_at-returns-in-Some-seen_by-clause-told g t c =
-    λ a agrees.
-    (let there = c.in-Some-place_at.ensures.some in
-    let mine : c.index-state.result.now ≡ there.0 = c.index-state.ensures ∙ get_or_from_slice_get c.paused_block.new.arena.states.items c.in-Some-place_at.place there.0 c.index-state.result.now there.1 in
-    let at : slice_get c.paused_block.new.arena.states.items c.in-Some-place_at.place ≡ Some c.index-state.result.now = there.1 ∙ ap (λ (z : State). Some z) (sym mine) in
-    let cell : c.index-state.result.now.spot.cell ≡ c.args.cell = ap (λ (z : State). z.spot.cell) mine ∙ there.2 in
-    let inside : IsIn c.args.time c.index-state.result.now.spot.interval = subst (λ (z : State). IsIn c.args.time z.spot.interval) (sym mine) there.3 in (
-      refl,
-      paused_known c.args.task.now.grid.now c.args.task.now.request c.args.task.now.horizon (g.V.CalendarView.known c.paused_block.new.view) (g.V.CalendarView.size c.paused_block.new.view) c.paused_block.new.arena c.requires.ready.bound c.in_ok-first.ensures.paused a agrees c.in-Some-place_at.place c.in-Some-seen_by.arrival c.args.time c.index-state.result.now c.args.cell at
-          c.in-Some-seen_by.ensures.some.0 cell inside c.in-Some-seen_by.ensures.some.1 (omega (arith, c.in-Some-checked_sub.ensures, c.floor-floor.ensures.value, c.if-room-state.false)),
-    ))
+pub arrival_at-returns-then-room-left-clause-paused : goal.arrival_at-returns-then-room-left-clause-paused
+arrival_at-returns-then-room-left-clause-paused g t c =
+    paused_counted c.args.task.now.grid.now c.args.task.now.request c.args.task.now.horizon (g.V.CalendarView.known c.args.view.now) (g.V.CalendarView.size c.args.view.now) c.args.arena.now c.way_left.new.arena c.requires.paused c.in_ok-left.ensures.sound c.in_ok-left.ensures.states c.in_ok-left.ensures.queue
 
-pub arrival_at-returns-then-state-room-clause-told : goal.arrival_at-returns-then-state-room-clause-told
-arrival_at-returns-then-state-room-clause-told g t c =
+pub arrival_at-returns-in-Some-seen_at-clause-paused : goal.arrival_at-returns-in-Some-seen_at-clause-paused
+arrival_at-returns-in-Some-seen_at-clause-paused g t c =
+    paused_counted c.args.task.now.grid.now c.args.task.now.request c.args.task.now.horizon (g.V.CalendarView.known c.args.view.now) (g.V.CalendarView.size c.args.view.now) c.args.arena.now c.way_left.new.arena c.requires.paused c.in_ok-left.ensures.sound c.in_ok-left.ensures.states c.in_ok-left.ensures.queue
+
+pub arrival_at-returns-then-left-room-clause-paused : goal.arrival_at-returns-then-left-room-clause-paused
+arrival_at-returns-then-left-room-clause-paused g t c =
+    paused_counted c.args.task.now.grid.now c.args.task.now.request c.args.task.now.horizon (g.V.CalendarView.known c.args.view.now) (g.V.CalendarView.size c.args.view.now) c.args.arena.now c.way_left.new.arena c.requires.paused c.in_ok-left.ensures.sound c.in_ok-left.ensures.states c.in_ok-left.ensures.queue
+
+pub arrival_at-returns-in-Some-seen_at-clause-loaded : goal.arrival_at-returns-in-Some-seen_at-clause-loaded
+arrival_at-returns-in-Some-seen_at-clause-loaded g t c =
+    seen_loaded c.args.task.now.grid.now c.args.task.now.request c.args.task.now.horizon (g.V.CalendarView.known c.args.view.now) (g.V.CalendarView.size c.args.view.now) c.way_left.new.arena c.args.cell c.args.time c.in_ok-left.ensures.sound c.in-Some-seen_at.ensures.some.0
+
+pub arrival_at-returns-in-Some-seen_at-clause-early : goal.arrival_at-returns-in-Some-seen_at-clause-early
+arrival_at-returns-in-Some-seen_at-clause-early g t c = omega (arith, c.in-Some-seen_at.ensures.some.0.early, c.in-Some-seen_at.ensures.some.1)
+
+pub arrival_at-returns-in-Some-seen_at-clause-told : goal.arrival_at-returns-in-Some-seen_at-clause-told
+arrival_at-returns-in-Some-seen_at-clause-told g t c =
     λ a agrees.
-    (let there = c.in-Some-place_at.ensures.some in
-    let mine : c.index-state.result.now ≡ there.0 = c.index-state.ensures ∙ get_or_from_slice_get c.paused_block.new.arena.states.items c.in-Some-place_at.place there.0 c.index-state.result.now there.1 in
-    let at : slice_get c.paused_block.new.arena.states.items c.in-Some-place_at.place ≡ Some c.index-state.result.now = there.1 ∙ ap (λ (z : State). Some z) (sym mine) in
-    let cell : c.index-state.result.now.spot.cell ≡ c.args.cell = ap (λ (z : State). z.spot.cell) mine ∙ there.2 in
-    let inside : IsIn c.args.time c.index-state.result.now.spot.interval = subst (λ (z : State). IsIn c.args.time z.spot.interval) (sym mine) there.3 in
-    paused_below c.args.task.now.grid.now c.args.task.now.request c.args.task.now.horizon (g.V.CalendarView.known c.paused_block.new.view) (g.V.CalendarView.size c.paused_block.new.view) c.paused_block.new.arena c.requires.ready.bound c.in_ok-first.ensures.paused a agrees c.in-Some-place_at.place c.args.time c.index-state.result.now c.args.cell at cell inside
-    c.in_default-seen_by.ensures.not_final (omega (arith, c.in-Some-checked_sub.ensures, c.floor-floor.ensures.value, c.if-state-room.true)))
+    (let seen = c.in-Some-seen_at.ensures.some in
+    let early : IsEarliest c.args.task.now.grid.now (traffic_by a) c.args.task.now.request c.args.cell c.args.time seen.0.arrival =
+    paused_seen c.args.task.now.grid.now c.args.task.now.request c.args.task.now.horizon (g.V.CalendarView.known c.args.view.now) (g.V.CalendarView.size c.args.view.now) c.way_left.new.arena c.requires.ready.bound
+    (paused_counted c.args.task.now.grid.now c.args.task.now.request c.args.task.now.horizon (g.V.CalendarView.known c.args.view.now) (g.V.CalendarView.size c.args.view.now) c.args.arena.now c.way_left.new.arena c.requires.paused c.in_ok-left.ensures.sound c.in_ok-left.ensures.states c.in_ok-left.ensures.queue) a agrees
+    c.args.cell c.args.time c.in-Some.left seen.0 (rw c.in-Some.is at c.in_ok-left.ensures.some) (omega (arith, c.in-Some-checked_sub.ensures, c.floor.ensures.value, c.if-room-left.false)) in
+    (refl, subst (λ (n : ℕ). IsEarliest c.args.task.now.grid.now (traffic_by a) c.args.task.now.request c.args.cell c.args.time n) seen.1 early))
+
+pub arrival_at-returns-then-left-room-clause-told : goal.arrival_at-returns-then-left-room-clause-told
+arrival_at-returns-then-left-room-clause-told g t c =
+    λ a agrees.
+    paused_below c.args.task.now.grid.now c.args.task.now.request c.args.task.now.horizon (g.V.CalendarView.known c.args.view.now) (g.V.CalendarView.size c.args.view.now) c.way_left.new.arena c.requires.ready.bound
+    (paused_counted c.args.task.now.grid.now c.args.task.now.request c.args.task.now.horizon (g.V.CalendarView.known c.args.view.now) (g.V.CalendarView.size c.args.view.now) c.args.arena.now c.way_left.new.arena c.requires.paused c.in_ok-left.ensures.sound c.in_ok-left.ensures.states c.in_ok-left.ensures.queue) a agrees
+    c.args.cell c.args.time c.in-Some.left (rw c.in-Some.is at c.in_ok-left.ensures.some)
+    (c.in_default-seen_at.ensures.none c.args.task.now.grid.now c.args.task.now.request c.args.task.now.horizon (g.V.CalendarView.known c.args.view.now) c.in_ok-left.ensures.sound.arranged) (omega (arith, c.in-Some-checked_sub.ensures, c.floor.ensures.value, c.if-left-room.true))
 
 pub arrival_at-ask-requires : goal.arrival_at-ask-requires
 arrival_at-ask-requires g t c κs within =
-    (let there = c.in-Some-place_at.ensures.some in
-    let mine : c.index-state.result.now ≡ there.0 = c.index-state.ensures ∙ get_or_from_slice_get c.paused_block.new.arena.states.items c.in-Some-place_at.place there.0 c.index-state.result.now there.1 in
-    let at : slice_get c.paused_block.new.arena.states.items c.in-Some-place_at.place ≡ Some c.index-state.result.now = there.1 ∙ ap (λ (z : State). Some z) (sym mine) in
-    let cell : c.index-state.result.now.spot.cell ≡ c.args.cell = ap (λ (z : State). z.spot.cell) mine ∙ there.2 in
-    let inside : IsIn c.args.time c.index-state.result.now.spot.interval = subst (λ (z : State). IsIn c.args.time z.spot.interval) (sym mine) there.3 in
-    let unseen : IsUnseenAt c.paused_block.new.arena.states.items c.paused_block.new.arena.queue.floor c.in-Some-place_at.place c.args.cell c.args.time = record {
-      state = c.index-state.result.now;
-      stands = at;
-      cell_is = cell;
-      inside = inside;
-      key = omega (arith, c.in-Some-checked_sub.ensures, c.floor-floor.ensures.value, c.if-room-state.false, c.if-state-room.false);
-      not_queued = c.in_default-seen_by.ensures.not_queued;
-      not_final = c.in_default-seen_by.ensures.not_final;
+    (let unseen : IsUnseenAt c.args.task.now.grid.now c.args.task.now.request c.way_left.new.arena.states.items c.way_left.new.arena.queue.floor c.args.cell c.args.time c.in-Some.left = record {
+      distance = rw c.in-Some.is at c.in_ok-left.ensures.some;
+      key = omega (arith, c.in-Some-checked_sub.ensures, c.floor.ensures.value, c.if-room-left.false, c.if-left-room.false);
+      unseen = c.in_default-seen_at.ensures.none c.args.task.now.grid.now c.args.task.now.request c.args.task.now.horizon (g.V.CalendarView.known c.args.view.now) c.in_ok-left.ensures.sound.arranged;
     } in (
       omega (arith, c.decreases),
       (
         within,
         (
-          ready_kept c.args.task.now.grid.now c.args.task.now.request c.args.task.now.horizon (g.V.CalendarView.size c.args.view.now) (g.V.CalendarView.size c.paused_block.new.view) c.in_ok-first.ensures.cells c.requires.ready,
+          c.requires.ready,
           (
-            c.in_ok-first.ensures.paused,
-            (
-              ties_kept c.args.task.now.grid.now c.args.task.now.request (g.V.CalendarView.known c.args.view.now) (g.V.CalendarView.known c.paused_block.new.view) c.args.ties.now c.in_ok-first.ensures.kept c.requires.ties,
-              (omega (arith, c.requires.cell, c.in_ok-first.ensures.cells), (c.requires.time, unseen)),
-            ),
+            paused_counted c.args.task.now.grid.now c.args.task.now.request c.args.task.now.horizon (g.V.CalendarView.known c.args.view.now) (g.V.CalendarView.size c.args.view.now) c.args.arena.now c.way_left.new.arena c.requires.paused c.in_ok-left.ensures.sound c.in_ok-left.ensures.states c.in_ok-left.ensures.queue,
+            (c.requires.ties, (c.requires.cell, (c.requires.place, (c.requires.time, unseen)))),
           ),
         ),
       ),
     ))
 
+pub ask-returns-then-taken-clause-told : goal.ask-returns-then-taken-clause-told
+ask-returns-then-taken-clause-told g t c =
+    λ a agrees reached. false≢true (sym (reached_free c.args.task.now.grid.now c.args.task.now.request a reached) ∙ (c.in_ok-taken.ensures.taken a agrees ∙ c.if-taken.true))
+
 pub ask-returns-then-branch-clause-ties : goal.ask-returns-then-branch-clause-ties
 ask-returns-then-branch-clause-ties g t c =
-    c.in_ok-is_too_far.ensures.ties (g.V.CalendarView.known c.args.view.now) c.requires.ties
+    c.in_ok-is_too_far.ensures.ties (g.V.CalendarView.known c.is_taken.new.view) c.in_ok-taken.ensures.ties
 
 pub ask-returns-then-depth-eq0-clause-ties : goal.ask-returns-then-depth-eq0-clause-ties
 ask-returns-then-depth-eq0-clause-ties g t c =
-    c.in_ok-is_too_far.ensures.ties (g.V.CalendarView.known c.args.view.now) c.requires.ties
+    c.in_ok-is_too_far.ensures.ties (g.V.CalendarView.known c.is_taken.new.view) c.in_ok-taken.ensures.ties
 
 pub ask-step_back-requires : goal.ask-step_back-requires
 ask-step_back-requires g t c κs within = (
@@ -100,19 +98,16 @@ ask-step_back-requires g t c κs within = (
   (
     within,
     (
-      c.requires.ready,
+      ready_kept c.args.task.now.grid.now c.args.task.now.request c.args.task.now.horizon (g.V.CalendarView.size c.args.view.now) (g.V.CalendarView.size c.is_taken.new.view) c.in_ok-taken.ensures.cells c.requires.ready,
       (
-        c.requires.paused,
+        c.in_ok-taken.ensures.paused,
         (
-          c.in_ok-is_too_far.ensures.ties (g.V.CalendarView.known c.args.view.now) c.requires.ties,
+          c.in_ok-is_too_far.ensures.ties (g.V.CalendarView.known c.is_taken.new.view) c.in_ok-taken.ensures.ties,
           (
-            unseen_loaded c.args.task.now.grid.now c.args.task.now.request c.args.task.now.horizon (g.V.CalendarView.known c.args.view.now) (g.V.CalendarView.size c.args.view.now) c.args.arena.now c.args.place c.args.time c.args.cell c.requires.paused.sound c.requires.unseen,
+            c.in_ok-taken.ensures.loaded,
             (
-              c.requires.cell,
-              (
-                c.requires.time,
-                (λ a agrees. paused_free c.args.task.now.grid.now c.args.task.now.request c.args.task.now.horizon (g.V.CalendarView.known c.args.view.now) (g.V.CalendarView.size c.args.view.now) c.args.arena.now c.requires.ready.bound c.requires.paused a agrees c.args.place c.args.time c.args.cell c.requires.unseen),
-              ),
+              omega (arith, c.requires.cell, c.in_ok-taken.ensures.cells),
+              (c.requires.place, (c.requires.time, (λ a agrees. c.in_ok-taken.ensures.taken a agrees ∙ c.if-taken.false))),
             ),
           ),
         ),
@@ -132,29 +127,25 @@ ask-returns-then-told-time-2-clause-told g t c =
 pub ask-returns-in-Since-clause-ties : goal.ask-returns-in-Since-clause-ties
 ask-returns-in-Since-clause-ties g t c =
     ties_entered c.args.task.now.grid.now c.args.task.now.request (g.V.CalendarView.known c.step_back.new.view) c.step_back.new.ties c.args.cell c.args.time c.set.new.self c.in_ok-before.ensures.ties (omega (arith, c.requires.cell, c.requires.ready.size_is)) c.set.ensures
-    (λ a agrees.
-    (let back = rw c.in-Since.is at (c.in_ok-before.ensures.told a agrees) in
-    paused_entered c.args.task.now.grid.now c.args.task.now.request c.args.task.now.horizon (g.V.CalendarView.known c.args.view.now) (g.V.CalendarView.size c.args.view.now) c.args.arena.now c.requires.ready.bound c.requires.paused a (agrees_before a (g.V.CalendarView.known c.args.view.now) (g.V.CalendarView.known c.step_back.new.view) c.in_ok-before.ensures.kept agrees) c.args.place c.args.time c.args.cell c.in-Since.field-0.cell c.in-Since.field-0.time c.requires.unseen back))
-    (some_kept (g.V.CalendarView.known c.args.view.now) (g.V.CalendarView.known c.step_back.new.view) c.args.cell.0 c.in_ok-before.ensures.kept (unseen_loaded c.args.task.now.grid.now c.args.task.now.request c.args.task.now.horizon (g.V.CalendarView.known c.args.view.now) (g.V.CalendarView.size c.args.view.now) c.args.arena.now c.args.place c.args.time c.args.cell c.requires.paused.sound c.requires.unseen))
+    (λ a agrees. (let back = rw c.in-Since.is at (c.in_ok-before.ensures.told a agrees) in paused_entered c.args.task.now.grid.now c.args.task.now.request c.args.task.now.horizon (g.V.CalendarView.known c.is_taken.new.view) (g.V.CalendarView.size c.is_taken.new.view) c.args.arena.now c.requires.ready.bound c.in_ok-taken.ensures.paused a (agrees_before a (g.V.CalendarView.known c.is_taken.new.view) (g.V.CalendarView.known c.step_back.new.view) c.in_ok-before.ensures.kept agrees) c.args.cell c.in-Since.field-0.cell c.args.time c.in-Since.field-0.time c.args.left c.requires.unseen back))
+    (some_kept (g.V.CalendarView.known c.is_taken.new.view) (g.V.CalendarView.known c.step_back.new.view) c.args.cell.0 c.in_ok-before.ensures.kept c.in_ok-taken.ensures.loaded)
 
 pub ask-returns-in-Since-clause-loaded : goal.ask-returns-in-Since-clause-loaded
 ask-returns-in-Since-clause-loaded g t c =
-    some_kept (g.V.CalendarView.known c.args.view.now) (g.V.CalendarView.known c.step_back.new.view) c.args.cell.0 c.in_ok-before.ensures.kept (unseen_loaded c.args.task.now.grid.now c.args.task.now.request c.args.task.now.horizon (g.V.CalendarView.known c.args.view.now) (g.V.CalendarView.size c.args.view.now) c.args.arena.now c.args.place c.args.time c.args.cell c.requires.paused.sound c.requires.unseen)
+    some_kept (g.V.CalendarView.known c.is_taken.new.view) (g.V.CalendarView.known c.step_back.new.view) c.args.cell.0 c.in_ok-before.ensures.kept c.in_ok-taken.ensures.loaded
 
 pub ask-returns-in-Since-clause-told : goal.ask-returns-in-Since-clause-told
 ask-returns-in-Since-clause-told g t c =
-    λ a agrees.
-    (let back = rw c.in-Since.is at (c.in_ok-before.ensures.told a agrees) in
-    (refl, paused_entered c.args.task.now.grid.now c.args.task.now.request c.args.task.now.horizon (g.V.CalendarView.known c.args.view.now) (g.V.CalendarView.size c.args.view.now) c.args.arena.now c.requires.ready.bound c.requires.paused a (agrees_before a (g.V.CalendarView.known c.args.view.now) (g.V.CalendarView.known c.step_back.new.view) c.in_ok-before.ensures.kept agrees) c.args.place c.args.time c.args.cell c.in-Since.field-0.cell c.in-Since.field-0.time c.requires.unseen back))
+    λ a agrees. (let back = rw c.in-Since.is at (c.in_ok-before.ensures.told a agrees) in (refl, paused_entered c.args.task.now.grid.now c.args.task.now.request c.args.task.now.horizon (g.V.CalendarView.known c.is_taken.new.view) (g.V.CalendarView.size c.is_taken.new.view) c.args.arena.now c.requires.ready.bound c.in_ok-taken.ensures.paused a (agrees_before a (g.V.CalendarView.known c.is_taken.new.view) (g.V.CalendarView.known c.step_back.new.view) c.in_ok-before.ensures.kept agrees) c.args.cell c.in-Since.field-0.cell c.args.time c.in-Since.field-0.time c.args.left c.requires.unseen back))
 
 pub ask-returns-in-Never-clause-ties : goal.ask-returns-in-Never-clause-ties
 ask-returns-in-Never-clause-ties g t c =
     ties_missed c.args.task.now.grid.now c.args.task.now.request (g.V.CalendarView.known c.step_back.new.view) c.step_back.new.ties c.args.cell c.args.time c.set-in-Never.new.self c.in_ok-before.ensures.ties (omega (arith, c.requires.cell, c.requires.ready.size_is)) c.set-in-Never.ensures
-    (λ a agrees. paused_beside c.args.task.now.grid.now c.args.task.now.request c.args.task.now.horizon (g.V.CalendarView.known c.args.view.now) (g.V.CalendarView.size c.args.view.now) c.args.arena.now c.requires.ready.bound c.requires.paused a (agrees_before a (g.V.CalendarView.known c.args.view.now) (g.V.CalendarView.known c.step_back.new.view) c.in_ok-before.ensures.kept agrees) c.args.place c.args.time c.args.cell c.requires.unseen (rw c.in-Never.is at (c.in_ok-before.ensures.told a agrees)))
+    (λ a agrees. paused_beside c.args.task.now.grid.now c.args.task.now.request c.args.task.now.horizon (g.V.CalendarView.known c.is_taken.new.view) (g.V.CalendarView.size c.is_taken.new.view) c.args.arena.now c.requires.ready.bound c.in_ok-taken.ensures.paused a (agrees_before a (g.V.CalendarView.known c.is_taken.new.view) (g.V.CalendarView.known c.step_back.new.view) c.in_ok-before.ensures.kept agrees) c.args.cell c.args.time c.args.left c.requires.unseen (rw c.in-Never.is at (c.in_ok-before.ensures.told a agrees)))
 
 pub ask-returns-in-Never-clause-told : goal.ask-returns-in-Never-clause-told
 ask-returns-in-Never-clause-told g t c =
-    (λ a agrees. paused_beside c.args.task.now.grid.now c.args.task.now.request c.args.task.now.horizon (g.V.CalendarView.known c.args.view.now) (g.V.CalendarView.size c.args.view.now) c.args.arena.now c.requires.ready.bound c.requires.paused a (agrees_before a (g.V.CalendarView.known c.args.view.now) (g.V.CalendarView.known c.step_back.new.view) c.in_ok-before.ensures.kept agrees) c.args.place c.args.time c.args.cell c.requires.unseen (rw c.in-Never.is at (c.in_ok-before.ensures.told a agrees)))
+    λ a agrees. paused_beside c.args.task.now.grid.now c.args.task.now.request c.args.task.now.horizon (g.V.CalendarView.known c.is_taken.new.view) (g.V.CalendarView.size c.is_taken.new.view) c.args.arena.now c.requires.ready.bound c.in_ok-taken.ensures.paused a (agrees_before a (g.V.CalendarView.known c.is_taken.new.view) (g.V.CalendarView.known c.step_back.new.view) c.in_ok-before.ensures.kept agrees) c.args.cell c.args.time c.args.left c.requires.unseen (rw c.in-Never.is at (c.in_ok-before.ensures.told a agrees))
 
 pub side_back-returns-in-Never-clause-told : goal.side_back-returns-in-Never-clause-told
 side_back-returns-in-Never-clause-told g t c =
@@ -239,27 +230,3 @@ step_back-loop-rank-preserved g t c =
 pub step_back-returns-clause-told : goal.step_back-returns-clause-told
 step_back-returns-clause-told g t c =
     λ a agrees side n u beside time. c.loop-rank.invariant.none a agrees side (omega (arith, rank_low side, c.loop-rank-test.false)) n u beside time
-
-pub arrival_at-returns-in_default-clause-ties : goal.arrival_at-returns-in_default-clause-ties
-arrival_at-returns-in_default-clause-ties g t c =
-    ties_kept c.args.task.now.grid.now c.args.task.now.request (g.V.CalendarView.known c.args.view.now) (g.V.CalendarView.known c.paused_block.new.view) c.args.ties.now c.in_ok-first.ensures.kept c.requires.ties
-
-pub arrival_at-returns-in_default-place_at-clause-ties : goal.arrival_at-returns-in_default-place_at-clause-ties
-arrival_at-returns-in_default-place_at-clause-ties g t c =
-    ties_kept c.args.task.now.grid.now c.args.task.now.request (g.V.CalendarView.known c.args.view.now) (g.V.CalendarView.known c.paused_block.new.view) c.args.ties.now c.in_ok-first.ensures.kept c.requires.ties
-
-pub arrival_at-returns-in_default-checked_sub-clause-ties : goal.arrival_at-returns-in_default-checked_sub-clause-ties
-arrival_at-returns-in_default-checked_sub-clause-ties g t c =
-    ties_kept c.args.task.now.grid.now c.args.task.now.request (g.V.CalendarView.known c.args.view.now) (g.V.CalendarView.known c.paused_block.new.view) c.args.ties.now c.in_ok-first.ensures.kept c.requires.ties
-
-pub arrival_at-returns-then-room-state-clause-ties : goal.arrival_at-returns-then-room-state-clause-ties
-arrival_at-returns-then-room-state-clause-ties g t c =
-    ties_kept c.args.task.now.grid.now c.args.task.now.request (g.V.CalendarView.known c.args.view.now) (g.V.CalendarView.known c.paused_block.new.view) c.args.ties.now c.in_ok-first.ensures.kept c.requires.ties
-
-pub arrival_at-returns-in-Some-seen_by-clause-ties : goal.arrival_at-returns-in-Some-seen_by-clause-ties
-arrival_at-returns-in-Some-seen_by-clause-ties g t c =
-    ties_kept c.args.task.now.grid.now c.args.task.now.request (g.V.CalendarView.known c.args.view.now) (g.V.CalendarView.known c.paused_block.new.view) c.args.ties.now c.in_ok-first.ensures.kept c.requires.ties
-
-pub arrival_at-returns-then-state-room-clause-ties : goal.arrival_at-returns-then-state-room-clause-ties
-arrival_at-returns-then-state-room-clause-ties g t c =
-    ties_kept c.args.task.now.grid.now c.args.task.now.request (g.V.CalendarView.known c.args.view.now) (g.V.CalendarView.known c.paused_block.new.view) c.args.ties.now c.in_ok-first.ensures.kept c.requires.ties

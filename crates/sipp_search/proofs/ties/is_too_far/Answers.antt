@@ -1,8 +1,6 @@
-use Rattle.std.proofs.Common.{arith, subst, sym, ◌≡◌, ◌≤◌, ◌<◌, ◌+◌}
+use Rattle.std.proofs.Common.{arith, subst, sym}
 use Rattle.fleet_base.specs.declared.grid.Cell.{Cell}
 use Rattle.static_distance.specs.Distance.{IsWay}
-use Rattle.static_distance.specs.Levels.{apart}
-use Rattle.static_distance.proofs.Places.{way_long}
 use Rattle.sipp_search.proofs.Paused.{on_not, way_from_start}
 use Rattle.sipp_search.proofs.ties.is_too_far.Goals as goal
 
@@ -10,12 +8,6 @@ pub returns-in_default-clause-far : goal.returns-in_default-clause-far
 returns-in_default-clause-far c = λ a reached.
     (let way = way_from_start c.args.task.now.grid.now c.args.task.now.request a reached in
     omega (arith, way.2, c.in_default.ensures))
-
-pub returns-then-since-moves_between-clause-far : goal.returns-then-since-moves_between-clause-far
-returns-then-since-moves_between-clause-far c = λ a reached.
-    (let way = way_from_start c.args.task.now.grid.now c.args.task.now.request a reached in
-    let long = way_long c.args.task.now.grid.now c.args.ties.now.start c.requires.ties.1.place_is way.1 in
-    omega (arith, way.2, long, c.in-Some.ensures, c.moves_between.ensures.moves, c.place_of.ensures.place))
 
 pub returns-clause-far : goal.returns-clause-far
 returns-clause-far c =

@@ -1,4 +1,4 @@
-use Rattle.std.proofs.Common.{arith, subst, sym, refl, ◌∙◌, ◌≡◌, ◌+◌, ◌≤◌, ◌++◌, ◌∷◌, ℕ, [], List, false}
+use Rattle.std.proofs.Common.{arith, subst, sym, refl, ◌∙◌, ◌≡◌, ◌++◌, ◌∷◌, ℕ, [], List, false}
 use Rattle.std.proofs.lemmas.Option.{slice_get_within}
 use Rattle.std.specs.Prelude.{reverse, unwrap_or}
 use Rattle.fleet_base.specs.declared.grid.Cell.{Cell}
@@ -19,7 +19,7 @@ step_back-requires-clause-ties g c =
 
 pub step_back-requires-clause-known : goal.step_back-requires-clause-known
 step_back-requires-clause-known g c =
-    (final_known c.args.task.now.grid.now c.args.task.now.request c.args.task.now.horizon (g.V.CalendarView.known c.args.view.now) (g.V.CalendarView.size c.args.view.now) c.args.arena.now c.requires.paused.sound c.requires.paused.on.place c.args.arena.now.queue.floor c.requires.paused.on.spot c.args.task.now.request.goal c.requires.paused.on.stands c.requires.paused.on.cell_is).0
+    final_known c.args.task.now.grid.now c.args.task.now.request c.args.task.now.horizon (g.V.CalendarView.known c.args.view.now) (g.V.CalendarView.size c.args.view.now) c.args.arena.now c.requires.paused.sound c.requires.paused.on.place c.args.arena.now.queue.floor c.requires.paused.on.spot c.args.task.now.request.goal c.requires.paused.on.stands c.requires.paused.on.cell_is
 
 pub step_back-requires-clause-free : goal.step_back-requires-clause-free
 step_back-requires-clause-free g c =

@@ -1,0 +1,49 @@
+-- The safe interval that comes after so many records: each free time that does is in it, and none other.
+use Rattle.std.proofs.Common.{arith, inl, inr}
+use Rattle.std.proofs.lemmas.Bool.{cases_lt}
+use Rattle.std.specs.Prelude.{◌≡◌, ℕ, ◌+◌, ◌-◌, ◌<◌, ◌≤◌, false, List}
+use Rattle.fleet_base.specs.declared.request.Record.{Record}
+use Rattle.calendars.specs.Places.{place_in}
+use Rattle.calendars.specs.Records.{covers, InOrder}
+use Rattle.safe_intervals.specs.declared.interval.Interval.{Interval}
+use Rattle.safe_intervals.specs.Safe.{IsIn, IsGapAt}
+use Rattle.safe_intervals.proofs.Counting.{more_begun}
+use Rattle.safe_intervals.proofs.SafeLemmas.{safe_once}
+use Rattle.sipp_search.proofs.Counted.{covered_later}
+
+module _ (records : List Record) (horizon place : ℕ) (i : Interval) (order : InOrder records) (gap : IsGapAt records horizon place i) where
+  -- more come before each time after it
+  pub more_later : (t : ℕ) → i.to < t → t ≤ horizon → place < place_in t records
+  more_later t later within = elim gap.safe.ends [
+    | inl last ↦ absurd (omega arith)
+    | inr taken ↦
+        let here : place_in i.to records ≡ place = gap.place_is i.to (gap.safe.some, omega arith) in
+        let one : place_in i.to records < place_in (i.to + 1) records = covered_later records 0 i.to (i.to + 1) order (omega arith) (gap.safe.free i.to (gap.safe.some, omega arith)) taken in
+        omega (arith, more_begun records (i.to + 1) t (omega arith))
+  ]
+
+  -- fewer come before each free time before it
+  pub fewer_earlier : (t : ℕ) → t < i.from → covers records t ≡ false → place_in t records < place
+  fewer_earlier t early free = elim gap.safe.begins [
+    | inl start ↦ absurd (omega arith)
+    | inr edge ↦
+        let here : place_in i.from records ≡ place = gap.place_is i.from (omega arith, gap.safe.some) in
+        let one : place_in t records < place_in (i.from - 1) records = covered_later records 0 t (i.from - 1) order (omega arith) free edge.1 in
+        omega (arith, more_begun records (i.from - 1) i.from (omega arith))
+  ]
+
+  pub since_gap : (t : ℕ) → covers records t ≡ false → place_in t records ≡ place → i.from ≤ t
+  since_gap t free is = elim (cases_lt t i.from) [ inl early ↦ absurd (omega (arith, fewer_earlier t early free)) | inr since ↦ since ]
+
+  pub until_gap : (t : ℕ) → t ≤ horizon → place_in t records ≡ place → t ≤ i.to
+  until_gap t within is = elim (cases_lt i.to t) [ inl later ↦ absurd (omega (arith, more_later t later within)) | inr until ↦ until ]
+
+  pub in_gap : (t : ℕ) → t ≤ horizon → covers records t ≡ false → place_in t records ≡ place → IsIn t i
+  in_gap t within free is = (since_gap t free is, until_gap t within is)
+
+-- no two safe intervals come after as many records
+pub same_gap : (records : List Record) (horizon place : ℕ) (i j : Interval) → InOrder records → IsGapAt records horizon place i → IsGapAt records horizon place j → i ≡ j
+same_gap records horizon place i j order one two =
+    let begin : IsIn i.from i = (omega arith, one.safe.some) in
+    safe_once records horizon i j i.from one.safe two.safe begin
+    (in_gap records horizon place j order two i.from (omega (arith, one.safe.some, one.safe.within)) (one.safe.free i.from begin) (one.place_is i.from begin))

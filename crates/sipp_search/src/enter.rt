@@ -1,0 +1,319 @@
+ghost use Rattle.std.specs.Prelude.{◌≡◌, ◌≢◌, ℕ, ◌+◌, ◌-◌, ◌<◌, ◌≤◌, false, List, Option, Some, None, IsSome, OnOk, IfOk, IfSome, IfNone, length, slice_get, slice_set, max};
+ghost use Rattle.std.specs.Bool.{OnTrue, OnFalse};
+ghost use Rattle.fleet_base.specs.declared.request.Record.{Record};
+ghost use Rattle.calendars.specs.Places.{place_in};
+ghost use Rattle.calendars.specs.Records.{covers, is_exchange, InOrder};
+ghost use Rattle.calendars.specs.Assignments.{Assignment, Agrees};
+ghost use Rattle.safe_intervals.specs.Safe.{IsIn};
+ghost use Rattle.static_distance.specs.Distance.{IsDistance};
+ghost use Rattle.sipp_search.specs.declared.states.Spot.{Spot as ASpot};
+ghost use Rattle.sipp_search.specs.declared.states.State.{State as AState};
+ghost use Rattle.sipp_search.specs.declared.states.Mark.TheVariants.{Queued};
+ghost use Rattle.sipp_search.specs.Marks.{spots_of, keys_of, offered, offered_mark};
+ghost use Rattle.sipp_search.specs.Entry.{CanEnter};
+ghost use Rattle.sipp_search.specs.Arena.{IsOfArena};
+ghost use Rattle.sipp_search.specs.Progress.{IsUnderWay, Improves};
+ghost use Rattle.sipp_search.specs.Running.{IsReady, IsSound, Serves, KeepsSpots, HasGrown};
+ghost use Rattle.sipp_search.specs.Visiting.{IsSource, HasLed, HasLedPast, HasLedInto};
+
+use crate::chain::{add_state, known_at, place_at};
+use crate::states::{Arena, Mark, Spot, State};
+use crate::task::Task;
+use bucket_queue::BucketQueue;
+use calendars::{Calendar, CalendarView};
+use fleet_base::{Cell, Memory};
+use safe_intervals::{Interval, begun_by, crossing_at, gap_at};
+
+// The least time at which an agent that is in the first interval since that time could be in the second, if no move were an
+// exchange.
+fn first_entry(from: Interval, to: Interval, since: u32) -> Option<u32>
+    requires until { since ≤ from.to }
+    requires times { from.to ≤ 8000 }
+    ensures some { IfSome result (λ e. (e ≡ max to.from (since + 1)) × (e ≤ from.to + 1) × (e ≤ to.to)) }
+    ensures none { IfNone result ((here there : List Record) (t : ℕ) → ¬ (CanEnter here there from to since t)) }
+{
+    let entry = to.from.max(since + 1);
+    if entry > to.to.min(from.to + 1) {
+        return None;
+    }
+    Some(entry)
+}
+
+// Whether the move out of that spot into the other one that arrives at that time is an exchange.
+fn is_barred(here: &Calendar, there: &Calendar, from: Spot, to: Spot, entry: u32) -> bool
+    requires begun { from.interval.from < entry }
+    requires until { entry ≤ from.interval.to + 1 }
+    requires times { from.interval.to ≤ 8000 }
+    requires lands { IsIn entry to.interval }
+    requires here { (t : ℕ) → IsIn t from.interval → (covers here.now t ≡ false) × (place_in t here.now ≡ from.place) }
+    requires there { (t : ℕ) → IsIn t to.interval → (covers there.now t ≡ false) × (place_in t there.now ≡ to.place) }
+    ensures barred { result ≡ is_exchange here.now there.now (entry - 1) }
+    ensures ordered { InOrder here.now }
+{
+    let _in_order = here.records();
+    let _there_too = there.records();
+    // Who takes part in an exchange leaves at the end of the interval.
+    if entry <= from.interval.to {
+        return false;
+    }
+    crossing_at(here, from.place, there, to.place, entry - 1)
+}
+
+// Whether an offered arrival is earlier than the one that the mark has.
+fn is_better(mark: Mark, arrival: u32) -> bool
+    ensures better { OnTrue result (offered_mark mark arrival ≡ Queued arrival) }
+    ensures worse { OnFalse result (offered_mark mark arrival ≡ mark) }
+{
+    match mark {
+        Mark::Unseen => true,
+        Mark::Queued(known) => arrival < known,
+        Mark::Final(_) => false,
+    }
+}
+
+// Queues a state at an arrival, or moves it there where it was queued at a later one.
+#[inline(always)]
+pub fn offer(
+    states: &mut Vec<State>,
+    queue: &mut BucketQueue,
+    id: usize,
+    arrival: u32,
+    key: u32,
+) -> Result<(), Memory>
+    requires known { id < length states.old.items }
+    requires paired { queue.old.keys ≡ keys_of states.old.items }
+    requires key { (s : AState) → slice_get states.old.items id ≡ Some s → key ≡ arrival + s.spot.left }
+    requires low { queue.old.floor ≤ key }
+    requires high { key ≤ queue.old.bound }
+    ensures states { OnOk result ((s : AState) → slice_get states.old.items id ≡ Some s → states.new.items ≡ slice_set states.old.items id (offered s arrival)) }
+    ensures queue { OnOk result (queue.new ≡ record queue.old { keys = keys_of states.new.items }) }
+    ensures bound { queue.new.bound ≡ queue.old.bound }
+{
+    if is_better(states[id].mark, arrival) {
+        queue.put(id, key)?;
+        states[id].mark = Mark::Queued(arrival);
+    }
+    Ok(())
+}
+
+// Whether the state, where one is known, has no arrival that is as early.
+fn is_news(arena: &Arena, known: Option<usize>, entry: u32) -> bool
+    requires { IfSome known (λ id. id < length arena.now.states.items) }
+    ensures worse { OnFalse result (IfSome known (λ id. (s : AState) → slice_get arena.now.states.items id ≡ Some s → offered_mark s.mark entry ≡ s.mark) × (known ≢ None)) }
+{
+    match known {
+        Some(id) => is_better(arena.states[id].mark, entry),
+        None => true,
+    }
+}
+
+// The place of the state that is known, or of an unseen one that is added.
+fn known_or_new<V: CalendarView>(
+    task: &Task,
+    view: &V,
+    arena: &mut Arena,
+    to: Spot,
+    known: Option<usize>,
+) -> Result<usize, Memory>
+    requires ready { IsReady task.now.grid.now task.now.request task.now.horizon (V.size view.now) }
+    requires sound { IsSound task.now.grid.now task.now.request task.now.horizon (V.known view.now) (V.size view.now) arena.old }
+    requires to { IsOfArena task.now.grid.now task.now.request.goal task.now.horizon (V.known view.now) to }
+    requires known { IfSome known (λ id. (s : AState) × (slice_get arena.old.states.items id ≡ Some s) × (s.spot.cell ≡ to.cell) × (s.spot.interval ≡ to.interval)) }
+    requires new { IfNone known ((i : ℕ) (p : ASpot) → slice_get (spots_of arena.old.states.items) i ≡ Some p → p.cell ≡ to.cell → p.interval ≢ to.interval) }
+    ensures serves { Serves task.now.horizon (length task.now.grid.now.cells) arena.new }
+    ensures sound { OnOk result (IsSound task.now.grid.now task.now.request task.now.horizon (V.known view.now) (V.size view.now) arena.new) }
+    ensures floor { OnOk result (arena.new.queue.floor ≡ arena.old.queue.floor) }
+    ensures grown { OnOk result (HasGrown arena.old.states.items arena.new.states.items) }
+    ensures place { IfOk result (λ id. (s : AState) × (slice_get arena.new.states.items id ≡ Some s) × (s.spot.cell ≡ to.cell) × (s.spot.interval ≡ to.interval)) }
+{
+    match known {
+        Some(id) => Ok(id),
+        None => add_state(arena, to),
+    }
+}
+
+// Makes the earliest move out of the spot, where the agent is since `arrival`, into another one, whose state is that one if
+// it has one.
+#[inline(always)]
+fn enter<V: CalendarView>(
+    task: &Task,
+    view: &V,
+    arena: &mut Arena,
+    from: Spot,
+    arrival: u32,
+    to: Spot,
+    known: Option<usize>,
+) -> Result<(), Memory>
+    requires ready { IsReady task.now.grid.now task.now.request task.now.horizon (V.size view.now) }
+    requires sound { IsSound task.now.grid.now task.now.request task.now.horizon (V.known view.now) (V.size view.now) arena.old }
+    requires placed { (i : ℕ) × (slice_get (spots_of arena.old.states.items) i ≡ Some from) }
+    requires arrived { IsIn arrival from.interval }
+    requires to { IsOfArena task.now.grid.now task.now.request.goal task.now.horizon (V.known view.now) to }
+    requires known { IfSome known (λ id. (s : AState) × (slice_get arena.old.states.items id ≡ Some s) × (s.spot.cell ≡ to.cell) × (s.spot.interval ≡ to.interval)) }
+    requires new { IfNone known ((i : ℕ) (p : ASpot) → slice_get (spots_of arena.old.states.items) i ≡ Some p → p.cell ≡ to.cell → p.interval ≢ to.interval) }
+    requires low { arena.old.queue.floor ≤ arrival + 1 + to.left }
+    ensures serves { Serves task.now.horizon (length task.now.grid.now.cells) arena.new }
+    ensures sound { OnOk result (IsSound task.now.grid.now task.now.request task.now.horizon (V.known view.now) (V.size view.now) arena.new) }
+    ensures floor { OnOk result (arena.new.queue.floor ≡ arena.old.queue.floor) }
+    ensures spots { OnOk result (KeepsSpots arena.old.states.items arena.new.states.items) }
+    ensures improves { OnOk result (Improves arena.old.states.items arena.new.states.items) }
+    ensures led { OnOk result ((a : Assignment) (x : ℕ) → Agrees a (V.known view.now) → IsSource task.now.grid.now task.now.request task.now.horizon a from arrival to.cell
+        → IsUnderWay task.now.grid.now task.now.request task.now.horizon a arena.old.states.items arena.old.queue.floor x
+        → IsUnderWay task.now.grid.now task.now.request task.now.horizon a arena.new.states.items arena.old.queue.floor x
+        × HasLedInto task.now.grid.now task.now.request task.now.horizon a arena.new.states.items from arrival to.cell to.interval) }
+{
+    let Some(entry) = first_entry(from.interval, to.interval, arrival) else {
+        return Ok(());
+    };
+    let Some(room) = task.horizon.checked_sub(entry) else {
+        return Ok(());
+    };
+    if to.left > room {
+        return Ok(());
+    }
+    if !is_news(&*arena, known, entry) {
+        return Ok(());
+    }
+    // Where the earliest move is an exchange, no later one is free.
+    if is_barred(
+        view.calendar(from.cell),
+        view.calendar(to.cell),
+        from,
+        to,
+        entry,
+    ) {
+        return Ok(());
+    }
+    let id = known_or_new(task, view, arena, to, known)?;
+    let key = entry + to.left;
+    offer(&mut arena.states, &mut arena.queue, id, entry, key)?;
+    Ok(())
+}
+
+// Makes the moves out of the spot, where the agent is since `arrival`, into the safe intervals of the cell that come after
+// so many of its records or more.
+fn enter_later<V: CalendarView>(
+    task: &Task,
+    view: &V,
+    arena: &mut Arena,
+    from: Spot,
+    arrival: u32,
+    to: Cell,
+    left: u32,
+    first: usize,
+) -> Result<(), Memory>
+    requires ready { IsReady task.now.grid.now task.now.request task.now.horizon (V.size view.now) }
+    requires sound { IsSound task.now.grid.now task.now.request task.now.horizon (V.known view.now) (V.size view.now) arena.old }
+    requires placed { (i : ℕ) × (slice_get (spots_of arena.old.states.items) i ≡ Some from) }
+    requires arrived { IsIn arrival from.interval }
+    requires cell { to.0 < V.size view.now }
+    requires there { IsSome (V.known view.now to.0) }
+    requires distance { IsDistance task.now.grid.now task.now.request.goal to left }
+    requires low { arena.old.queue.floor ≤ arrival + 1 + left }
+    ensures serves { Serves task.now.horizon (length task.now.grid.now.cells) arena.new }
+    ensures sound { OnOk result (IsSound task.now.grid.now task.now.request task.now.horizon (V.known view.now) (V.size view.now) arena.new) }
+    ensures floor { OnOk result (arena.new.queue.floor ≡ arena.old.queue.floor) }
+    ensures spots { OnOk result (KeepsSpots arena.old.states.items arena.new.states.items) }
+    ensures improves { OnOk result (Improves arena.old.states.items arena.new.states.items) }
+    ensures led { OnOk result ((a : Assignment) (x : ℕ) → Agrees a (V.known view.now) → IsSource task.now.grid.now task.now.request task.now.horizon a from arrival to
+        → IsUnderWay task.now.grid.now task.now.request task.now.horizon a arena.old.states.items arena.old.queue.floor x
+        → IsUnderWay task.now.grid.now task.now.request task.now.horizon a arena.new.states.items arena.old.queue.floor x
+        × HasLedPast task.now.grid.now task.now.request task.now.horizon a arena.new.states.items from arrival to first) }
+{
+    let there = view.calendar(to);
+    for place in first..there.records().len() + 1 {
+        // No move leads behind a record that is there after the interval.
+        if place > 0 && there.records()[place - 1].to > from.interval.to {
+            return Ok(());
+        }
+        if let Some(interval) = gap_at(there, place, task.horizon) {
+            let spot = Spot {
+                cell: to,
+                interval,
+                left,
+                place,
+                older: 0,
+            };
+            let known = known_at(&*arena, to, place);
+            enter(task, view, arena, from, arrival, spot, known)?;
+        }
+    }
+    Ok(())
+}
+
+// Makes the moves out of the spot, where the agent is since `arrival`, into the safe intervals of a known cell beside it.
+#[inline(always)]
+pub fn enter_each<V: CalendarView>(
+    task: &Task,
+    view: &V,
+    arena: &mut Arena,
+    from: Spot,
+    arrival: u32,
+    to: Cell,
+    left: u32,
+) -> Result<(), Memory>
+    requires ready { IsReady task.now.grid.now task.now.request task.now.horizon (V.size view.now) }
+    requires sound { IsSound task.now.grid.now task.now.request task.now.horizon (V.known view.now) (V.size view.now) arena.old }
+    requires placed { (i : ℕ) × (slice_get (spots_of arena.old.states.items) i ≡ Some from) }
+    requires arrived { IsIn arrival from.interval }
+    requires cell { to.0 < V.size view.now }
+    requires there { IsSome (V.known view.now to.0) }
+    requires distance { IsDistance task.now.grid.now task.now.request.goal to left }
+    requires low { arena.old.queue.floor ≤ arrival + 1 + left }
+    ensures serves { Serves task.now.horizon (length task.now.grid.now.cells) arena.new }
+    ensures sound { OnOk result (IsSound task.now.grid.now task.now.request task.now.horizon (V.known view.now) (V.size view.now) arena.new) }
+    ensures floor { OnOk result (arena.new.queue.floor ≡ arena.old.queue.floor) }
+    ensures spots { OnOk result (KeepsSpots arena.old.states.items arena.new.states.items) }
+    ensures improves { OnOk result (Improves arena.old.states.items arena.new.states.items) }
+    ensures led { OnOk result ((a : Assignment) (x : ℕ) → Agrees a (V.known view.now) → IsSource task.now.grid.now task.now.request task.now.horizon a from arrival to
+        → IsUnderWay task.now.grid.now task.now.request task.now.horizon a arena.old.states.items arena.old.queue.floor x
+        → IsUnderWay task.now.grid.now task.now.request task.now.horizon a arena.new.states.items arena.old.queue.floor x
+        × HasLed task.now.grid.now task.now.request task.now.horizon a arena.new.states.items from arrival to) }
+{
+    let first = begun_by(view.calendar(to), from.place, arrival + 1);
+    enter_later(task, view, arena, from, arrival, to, left, first)?;
+    Ok(())
+}
+
+// The same. Where a state of the cell holds the time of the earliest arrival, its interval needs no search.
+#[inline(always)]
+pub fn move_into<V: CalendarView>(
+    task: &Task,
+    view: &V,
+    arena: &mut Arena,
+    from: Spot,
+    arrival: u32,
+    to: Cell,
+    left: u32,
+) -> Result<(), Memory>
+    requires ready { IsReady task.now.grid.now task.now.request task.now.horizon (V.size view.now) }
+    requires sound { IsSound task.now.grid.now task.now.request task.now.horizon (V.known view.now) (V.size view.now) arena.old }
+    requires placed { (i : ℕ) × (slice_get (spots_of arena.old.states.items) i ≡ Some from) }
+    requires arrived { IsIn arrival from.interval }
+    requires cell { to.0 < V.size view.now }
+    requires there { IsSome (V.known view.now to.0) }
+    requires distance { IsDistance task.now.grid.now task.now.request.goal to left }
+    requires low { arena.old.queue.floor ≤ arrival + 1 + left }
+    ensures serves { Serves task.now.horizon (length task.now.grid.now.cells) arena.new }
+    ensures sound { OnOk result (IsSound task.now.grid.now task.now.request task.now.horizon (V.known view.now) (V.size view.now) arena.new) }
+    ensures floor { OnOk result (arena.new.queue.floor ≡ arena.old.queue.floor) }
+    ensures spots { OnOk result (KeepsSpots arena.old.states.items arena.new.states.items) }
+    ensures improves { OnOk result (Improves arena.old.states.items arena.new.states.items) }
+    ensures led { OnOk result ((a : Assignment) (x : ℕ) → Agrees a (V.known view.now) → IsSource task.now.grid.now task.now.request task.now.horizon a from arrival to
+        → IsUnderWay task.now.grid.now task.now.request task.now.horizon a arena.old.states.items arena.old.queue.floor x
+        → IsUnderWay task.now.grid.now task.now.request task.now.horizon a arena.new.states.items arena.old.queue.floor x
+        × HasLed task.now.grid.now task.now.request task.now.horizon a arena.new.states.items from arrival to) }
+{
+    let Some(id) = place_at(&*arena, to, arrival + 1) else {
+        return enter_each(task, view, arena, from, arrival, to, left);
+    };
+    let there = view.calendar(to);
+    let _in_order = there.records();
+    let spot = arena.states[id].spot;
+    enter(task, view, arena, from, arrival, spot, Some(id))?;
+    if from.interval.to <= spot.interval.to {
+        return Ok(());
+    }
+    enter_later(task, view, arena, from, arrival, to, left, spot.place + 1)?;
+    Ok(())
+}
