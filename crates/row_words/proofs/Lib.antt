@@ -1,3 +1,4 @@
 pub mod WordLemmas
+pub mod ShiftLemmas
 pub mod CellLemmas
 pub mod FlowLemmas

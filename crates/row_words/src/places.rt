@@ -1,5 +1,6 @@
 ghost use Rattle.std.specs.Prelude.{◌≡◌, ℕ, ◌+◌, ◌<◌, ◌≤◌, ◌⊎◌, ◌↔◌, true, Some, length, slice_get, IsTrue, IfSome, IfNone};
 ghost use Rattle.row_words.specs.Words.{IsSet};
+ghost use Rattle.row_words.specs.Cells.{HasOpen};
 
 /// The places that both words have.
 #[inline(always)]
@@ -90,9 +91,67 @@ pub fn open_places(cells: &[bool]) -> u64
     ensures { (i : ℕ) → IsSet result i ↔ (slice_get cells.now i ≡ Some true) }
 {
     let mut word = 0;
-    // From the last cell on, so that each step shifts by one place.
-    for place in (0..cells.len()).rev() {
-        word = word << 1 | cells[place] as u64;
+    let mut place = 0;
+    // Eight cells at a time: their steps don't wait for one another, as those of one long chain would.
+    while place + 8 <= cells.len() {
+        word = either(word, open_byte(cells, place) << place);
+        place += 8;
+    }
+    either(word, open_rest(cells, place))
+}
+
+// The same for the cells from one on that fill no byte.
+#[inline(always)]
+fn open_rest(cells: &[bool], from: usize) -> u64
+    requires { (from ≤ length cells.now) × (length cells.now ≤ 64) }
+    ensures { HasOpen cells.now 0 from (length cells.now) result }
+{
+    let mut word = 0;
+    for place in from..cells.len() {
+        word = either(word, open_cell(cells, 0, place));
     }
     word
+}
+
+// The same for the eight cells from one on, as if the first of them had place 0.
+#[inline(always)]
+fn open_byte(cells: &[bool], from: usize) -> u64
+    requires { from + 8 ≤ length cells.now }
+    ensures { HasOpen cells.now from 0 8 result }
+{
+    either(open_four(cells, from, 0), open_four(cells, from, 4))
+}
+
+#[inline(always)]
+fn open_four(cells: &[bool], from: usize, place: usize) -> u64
+    requires within { from + place + 4 ≤ length cells.now }
+    requires small { place ≤ 60 }
+    ensures { HasOpen cells.now from place (place + 4) result }
+{
+    either(
+        open_two(cells, from, place),
+        open_two(cells, from, place + 2),
+    )
+}
+
+#[inline(always)]
+fn open_two(cells: &[bool], from: usize, place: usize) -> u64
+    requires within { from + place + 2 ≤ length cells.now }
+    requires small { place ≤ 62 }
+    ensures { HasOpen cells.now from place (place + 2) result }
+{
+    either(
+        open_cell(cells, from, place),
+        open_cell(cells, from, place + 1),
+    )
+}
+
+// The place alone, where its cell is true.
+#[inline(always)]
+fn open_cell(cells: &[bool], from: usize, place: usize) -> u64
+    requires within { from + place < length cells.now }
+    requires small { place < 64 }
+    ensures { HasOpen cells.now from place (place + 1) result }
+{
+    (cells[from + place] as u64) << place
 }

@@ -27,6 +27,11 @@ fn places_of_cells(rt: HostRuntime) {
     assert_eq!(rt; open_places(&[true, false, true, true]), 0b1101);
     assert_eq!(rt; open_places(&[true; 64]), u64::MAX);
     assert_eq!(rt; open_places(&[]), 0);
+    let mut cells = [false; 19];
+    for place in [0, 2, 7, 8, 13, 17] {
+        cells[place] = true;
+    }
+    assert_eq!(rt; open_places(&cells), 0b10_0010_0001_1000_0101);
 }
 
 #[test]

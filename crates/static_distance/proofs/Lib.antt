@@ -6,7 +6,6 @@ pub mod AimLemmas
 pub mod TakeLemmas
 pub mod OrderLemmas
 pub mod SpanLemmas
-pub mod ShiftLemmas
 pub mod BatchLemmas
 pub mod BatchListLemmas
 pub mod MarkLemmas

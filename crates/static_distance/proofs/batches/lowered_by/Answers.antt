@@ -1,6 +1,6 @@
 use Rattle.std.proofs.Common.{◌+◌, ◌<◌, refl, arith}
 use Rattle.row_words.proofs.WordLemmas.{is_empty, set_below}
-use Rattle.static_distance.proofs.ShiftLemmas.{set_in_lowered}
+use Rattle.row_words.proofs.ShiftLemmas.{set_in_lowered}
 use Rattle.static_distance.proofs.batches.lowered_by.Goals as goal
 
 pub returns-then-count-lt64 : goal.returns-then-count-lt64

@@ -1,4 +1,4 @@
-use Rattle.static_distance.proofs.ShiftLemmas.{set_in_raised}
+use Rattle.row_words.proofs.ShiftLemmas.{set_in_raised}
 use Rattle.static_distance.proofs.batches.raised_by.Goals as goal
 
 pub returns : goal.returns
