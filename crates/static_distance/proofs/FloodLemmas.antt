@@ -19,8 +19,10 @@ use Rattle.static_distance.specs.Levels.{IsCounted, apart}
 use Rattle.static_distance.specs.Waiting.{IsListed}
 use Rattle.static_distance.specs.Spreading.{Flood, WaitsWell, IsFlood, HasCount, HasSpread}
 use Rattle.static_distance.specs.Spans.{IsSpan, IsCellAt, Holds, Stands, AreListed, IsFree, AreSpans, flood_of, flood_with, IsStep, IsLed, HasSpreadTo, IsShut, HasCounted}
+use Rattle.static_distance.specs.Rows.{HasMore, IsLedInRow}
 use Rattle.static_distance.proofs.Ways.{way_open}
 use Rattle.static_distance.proofs.Places.{column_at, apart_at}
+use Rattle.static_distance.proofs.RowLemmas.{row_left, row_right}
 use Rattle.static_distance.proofs.SpreadLemmas.{risen_flood, flow_well, away_well, spread_flood}
 
 pub no_items : {X : Type 0} (xs : List X) → length xs ≡ 0 → xs ≡ []
@@ -211,10 +213,10 @@ module _ (g : Terrain) (s : Span) (seeds free up down batch : ℕ) (old : Distan
         batch_counted n (i, mine, (inside', at')) is_free
 
   -- The batch is counted, and then its cells are left by the four sides.
-  module _ (d1 d2 d3 d4 d5 : Distances) (counted : HasCounted g s batch old d1) (one : HasSpreadTo g Up s batch d1 d2) (two : HasSpreadTo g Down s batch d2 d3)
-      (three : HasSpreadTo g Left s batch d3 d4) (four : HasSpreadTo g Right s batch d4 d5) where
-    marks_is : d5.marks ≡ d1.marks
-    marks_is = four.kept.marks ∙ (three.kept.marks ∙ (two.kept.marks ∙ one.kept.marks))
+  module _ (d1 d2 d3 d4 : Distances) (counted : HasCounted g s batch old d1) (one : HasSpreadTo g Up s batch d1 d2) (two : HasSpreadTo g Down s batch d2 d3)
+      (row : HasMore g (λ on n. IsLedInRow g s batch d3 on n) d3 d4) where
+    marks_is : d4.marks ≡ d1.marks
+    marks_is = row.kept.marks ∙ (two.kept.marks ∙ one.kept.marks)
 
     toward_is : d1.toward ≡ old.toward
     toward_is = counted.toward
@@ -222,18 +224,18 @@ module _ (g : Terrain) (s : Span) (seeds free up down batch : ℕ) (old : Distan
     here_before : (c : Cell) → Stands g d1.known d1.here.words.items c → Stands g old.known old.here.words.items c
     here_before c stands = subst (λ (w : Waiting). Stands g old.known w.words.items c) counted.here (subst (λ (k : List ℕ). Stands g k d1.here.words.items c) counted.known stands)
 
-    here_after : (c : Cell) → Stands g old.known old.here.words.items c → Stands g d5.known d5.here.words.items c
+    here_after : (c : Cell) → Stands g old.known old.here.words.items c → Stands g d4.known d4.here.words.items c
     here_after c stands =
-        four.kept.here c (three.kept.here c (two.kept.here c (one.kept.here c
-        (subst (λ (k : List ℕ). Stands g k d1.here.words.items c) (sym counted.known) (subst (λ (w : Waiting). Stands g old.known w.words.items c) (sym counted.here) stands)))))
+        row.kept.here c (two.kept.here c (one.kept.here c
+        (subst (λ (k : List ℕ). Stands g k d1.here.words.items c) (sym counted.known) (subst (λ (w : Waiting). Stands g old.known w.words.items c) (sym counted.here) stands))))
 
     next_before : (c : Cell) → Stands g d1.known d1.next.words.items c → Stands g old.known old.next.words.items c
     next_before c stands = subst (λ (w : Waiting). Stands g old.known w.words.items c) counted.next (subst (λ (k : List ℕ). Stands g k d1.next.words.items c) counted.known stands)
 
-    next_after : (c : Cell) → Stands g old.known old.next.words.items c → Stands g d5.known d5.next.words.items c
+    next_after : (c : Cell) → Stands g old.known old.next.words.items c → Stands g d4.known d4.next.words.items c
     next_after c stands =
-        four.kept.next c (three.kept.next c (two.kept.next c (one.kept.next c
-        (subst (λ (k : List ℕ). Stands g k d1.next.words.items c) (sym counted.known) (subst (λ (w : Waiting). Stands g old.known w.words.items c) (sym counted.next) stands)))))
+        row.kept.next c (two.kept.next c (one.kept.next c
+        (subst (λ (k : List ℕ). Stands g k d1.next.words.items c) (sym counted.known) (subst (λ (w : Waiting). Stands g old.known w.words.items c) (sym counted.next) stands))))
 
     -- who is led to waits well
     led_here : (side : Side) (d : Distances) (c : Cell) → d.toward ≡ old.toward → IsLed g side s batch d true c → WaitsWell g before old.level c
@@ -244,63 +246,57 @@ module _ (g : Terrain) (s : Span) (seeds free up down batch : ℕ) (old : Distan
     led_next side d c toward led =
         away_well g before led.from c side (batch_well led.from led.held) led.beside led.free.0 (subst (λ (p : Place). IsStep g p false led.from c) toward led.step)
 
-    here_well : (c : Cell) → Stands g d5.known d5.here.words.items c → WaitsWell g before old.level c
-    here_well c stands5 = elim (four.here_only c stands5) [
-      | inr led ↦ led_here Right d4 c (three.kept.toward ∙ (two.kept.toward ∙ (one.kept.toward ∙ toward_is))) led
-      | inl stands4 ↦ elim (three.here_only c stands4) [
-        | inr led ↦ led_here Left d3 c (two.kept.toward ∙ (one.kept.toward ∙ toward_is)) led
-        | inl stands3 ↦ elim (two.here_only c stands3) [
-          | inr led ↦ led_here Down d2 c (one.kept.toward ∙ toward_is) led
-          | inl stands2 ↦ elim (one.here_only c stands2) [
-            | inr led ↦ led_here Up d1 c toward_is led
-            | inl stands1 ↦ flood.here_well c (inl (here_before c stands1))
-          ]
+    here_well : (c : Cell) → Stands g d4.known d4.here.words.items c → WaitsWell g before old.level c
+    here_well c stands4 = elim (row.here_only c stands4) [
+      | inr (inl led) ↦ led_here Left d3 c (two.kept.toward ∙ (one.kept.toward ∙ toward_is)) led
+      | inr (inr led) ↦ led_here Right d3 c (two.kept.toward ∙ (one.kept.toward ∙ toward_is)) led
+      | inl stands3 ↦ elim (two.here_only c stands3) [
+        | inr led ↦ led_here Down d2 c (one.kept.toward ∙ toward_is) led
+        | inl stands2 ↦ elim (one.here_only c stands2) [
+          | inr led ↦ led_here Up d1 c toward_is led
+          | inl stands1 ↦ flood.here_well c (inl (here_before c stands1))
         ]
       ]
     ]
 
-    next_well : (c : Cell) → Stands g d5.known d5.next.words.items c → WaitsWell g before (old.level + 2) c
-    next_well c stands5 = elim (four.next_only c stands5) [
-      | inr led ↦ led_next Right d4 c (three.kept.toward ∙ (two.kept.toward ∙ (one.kept.toward ∙ toward_is))) led
-      | inl stands4 ↦ elim (three.next_only c stands4) [
-        | inr led ↦ led_next Left d3 c (two.kept.toward ∙ (one.kept.toward ∙ toward_is)) led
-        | inl stands3 ↦ elim (two.next_only c stands3) [
-          | inr led ↦ led_next Down d2 c (one.kept.toward ∙ toward_is) led
-          | inl stands2 ↦ elim (one.next_only c stands2) [
-            | inr led ↦ led_next Up d1 c toward_is led
-            | inl stands1 ↦ flood.next_well c (next_before c stands1)
-          ]
+    next_well : (c : Cell) → Stands g d4.known d4.next.words.items c → WaitsWell g before (old.level + 2) c
+    next_well c stands4 = elim (row.next_only c stands4) [
+      | inr (inl led) ↦ led_next Left d3 c (two.kept.toward ∙ (one.kept.toward ∙ toward_is)) led
+      | inr (inr led) ↦ led_next Right d3 c (two.kept.toward ∙ (one.kept.toward ∙ toward_is)) led
+      | inl stands3 ↦ elim (two.next_only c stands3) [
+        | inr led ↦ led_next Down d2 c (one.kept.toward ∙ toward_is) led
+        | inl stands2 ↦ elim (one.next_only c stands2) [
+          | inr led ↦ led_next Up d1 c toward_is led
+          | inl stands1 ↦ flood.next_well c (next_before c stands1)
         ]
       ]
     ]
 
     abbrev Waits : Cell → Cell → Type 0
-    Waits c n = (Stands g d5.known d5.here.words.items n × IsStep g old.toward true c n) ⊎ (Stands g d5.known d5.next.words.items n × IsStep g old.toward false c n)
+    Waits c n = (Stands g d4.known d4.here.words.items n × IsStep g old.toward true c n) ⊎ (Stands g d4.known d4.next.words.items n × IsStep g old.toward false c n)
+
+    row_waits : (c n : Cell) → (Stands g d4.known d4.here.words.items n × IsStep g d3.toward true c n) ⊎ (Stands g d4.known d4.next.words.items n × IsStep g d3.toward false c n) → Waits c n
+    row_waits c n (inl (stands, step)) = inl (stands, subst (λ (p : Place). IsStep g p true c n) (two.kept.toward ∙ (one.kept.toward ∙ toward_is)) step)
+    row_waits c n (inr (stands, step)) = inr (stands, subst (λ (p : Place). IsStep g p false c n) (two.kept.toward ∙ (one.kept.toward ∙ toward_is)) step)
 
     -- a free cell beside one of the batch waits in the end
     free_waits : (c n : Cell) (side : Side) → Holds g s batch c → IsBeside g side c n → IsFree g d1.marks n → Waits c n
     free_waits c n Up held beside free_one = elim (one.led c n held beside free_one) [
-      | inl (stands, step) ↦ inl (four.kept.here n (three.kept.here n (two.kept.here n stands)), subst (λ (p : Place). IsStep g p true c n) toward_is step)
-      | inr (stands, step) ↦ inr (four.kept.next n (three.kept.next n (two.kept.next n stands)), subst (λ (p : Place). IsStep g p false c n) toward_is step)
+      | inl (stands, step) ↦ inl (row.kept.here n (two.kept.here n stands), subst (λ (p : Place). IsStep g p true c n) toward_is step)
+      | inr (stands, step) ↦ inr (row.kept.next n (two.kept.next n stands), subst (λ (p : Place). IsStep g p false c n) toward_is step)
     ]
     free_waits c n Down held beside free_one = elim (two.led c n held beside (subst (λ (ms : List ℕ). IsFree g ms n) (sym one.kept.marks) free_one)) [
-      | inl (stands, step) ↦ inl (four.kept.here n (three.kept.here n stands), subst (λ (p : Place). IsStep g p true c n) (one.kept.toward ∙ toward_is) step)
-      | inr (stands, step) ↦ inr (four.kept.next n (three.kept.next n stands), subst (λ (p : Place). IsStep g p false c n) (one.kept.toward ∙ toward_is) step)
+      | inl (stands, step) ↦ inl (row.kept.here n stands, subst (λ (p : Place). IsStep g p true c n) (one.kept.toward ∙ toward_is) step)
+      | inr (stands, step) ↦ inr (row.kept.next n stands, subst (λ (p : Place). IsStep g p false c n) (one.kept.toward ∙ toward_is) step)
     ]
-    free_waits c n Left held beside free_one = elim (three.led c n held beside (subst (λ (ms : List ℕ). IsFree g ms n) (sym (two.kept.marks ∙ one.kept.marks)) free_one)) [
-      | inl (stands, step) ↦ inl (four.kept.here n stands, subst (λ (p : Place). IsStep g p true c n) (two.kept.toward ∙ (one.kept.toward ∙ toward_is)) step)
-      | inr (stands, step) ↦ inr (four.kept.next n stands, subst (λ (p : Place). IsStep g p false c n) (two.kept.toward ∙ (one.kept.toward ∙ toward_is)) step)
-    ]
-    free_waits c n Right held beside free_one = elim (four.led c n held beside (subst (λ (ms : List ℕ). IsFree g ms n) (sym (three.kept.marks ∙ (two.kept.marks ∙ one.kept.marks))) free_one)) [
-      | inl (stands, step) ↦ inl (stands, subst (λ (p : Place). IsStep g p true c n) (three.kept.toward ∙ (two.kept.toward ∙ (one.kept.toward ∙ toward_is))) step)
-      | inr (stands, step) ↦ inr (stands, subst (λ (p : Place). IsStep g p false c n) (three.kept.toward ∙ (two.kept.toward ∙ (one.kept.toward ∙ toward_is))) step)
-    ]
+    free_waits c n Left held beside free_one = row_waits c n (row_left g s batch d3 d4 row c n held beside (subst (λ (ms : List ℕ). IsFree g ms n) (sym (two.kept.marks ∙ one.kept.marks)) free_one))
+    free_waits c n Right held beside free_one = row_waits c n (row_right g s batch d3 d4 row c n held beside (subst (λ (ms : List ℕ). IsFree g ms n) (sym (two.kept.marks ∙ one.kept.marks)) free_one))
 
-    pub has_spread : length d1.marks ≡ length g.cells → HasSpread g (λ c. Holds g s batch c) before (flood_of g d5)
+    pub has_spread : length d1.marks ≡ length g.cells → HasSpread g (λ c. Holds g s batch c) before (flood_of g d4)
     has_spread fit = record {
-      goal = four.kept.goal ∙ (three.kept.goal ∙ (two.kept.goal ∙ (one.kept.goal ∙ counted.goal)));
-      toward = four.kept.toward ∙ (three.kept.toward ∙ (two.kept.toward ∙ (one.kept.toward ∙ counted.toward)));
-      level = four.kept.level ∙ (three.kept.level ∙ (two.kept.level ∙ (one.kept.level ∙ counted.level)));
+      goal = row.kept.goal ∙ (two.kept.goal ∙ (one.kept.goal ∙ counted.goal));
+      toward = row.kept.toward ∙ (two.kept.toward ∙ (one.kept.toward ∙ counted.toward));
+      level = row.kept.level ∙ (two.kept.level ∙ (one.kept.level ∙ counted.level));
       batch_well = batch_well;
       counted = λ c held k on_level. subst (λ (ms : List ℕ). IsCounted ms c k) (sym marks_is) (counted.counted c k held on_level);
       still = λ c k is. subst (λ (ms : List ℕ). IsCounted ms c k) (sym marks_is) (counted.still c k is);
@@ -321,5 +317,5 @@ module _ (g : Terrain) (s : Span) (seeds free up down batch : ℕ) (old : Distan
       ];
     }
 
-    pub spread_spans : length d1.marks ≡ length g.cells → IsFlood g (flood_of g d5)
-    spread_spans fit = spread_flood g (λ c. Holds g s batch c) before (flood_of g d5) flood (has_spread fit)
+    pub spread_spans : length d1.marks ≡ length g.cells → IsFlood g (flood_of g d4)
+    spread_spans fit = spread_flood g (λ c. Holds g s batch c) before (flood_of g d4) flood (has_spread fit)

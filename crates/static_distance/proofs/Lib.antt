@@ -10,3 +10,4 @@ pub mod BatchLemmas
 pub mod BatchListLemmas
 pub mod MarkLemmas
 pub mod SideLemmas
+pub mod RowLemmas

@@ -7,3 +7,4 @@ pub mod Waiting
 pub mod Spreading
 pub mod Spans
 pub mod Aim
+pub mod Rows

@@ -6,7 +6,9 @@ use crate::place::{Place, moves_between, place_of};
 use crate::span::{Span, cells_of, span_at, stride};
 use crate::waiting::Waiting;
 use fleet_base::{Cell, Grid, Memory};
-use row_words::{below, both, filled, is_set, lowered, open_places, raised, single, without};
+use row_words::{
+    below, both, either, filled, is_set, lowered, open_places, raised, single, without,
+};
 use stamped_list::StampedList;
 use std::alloc::Global;
 
@@ -37,6 +39,7 @@ impl Distances {
     ghost use Rattle.static_distance.specs.Levels.{IsPlaceOf, apart, uncounted};
     ghost use Rattle.static_distance.specs.Spreading.{IsFlood};
     ghost use Rattle.static_distance.specs.Spans.{stride, IsSpan, Holds, IsFree, AreSpans, flood_of, flood_with, HasEntered, HasSpreadTo, HasCounted, IsShut};
+    ghost use Rattle.static_distance.specs.Rows.{HasMore, IsLedWithin, IsLedOut};
     ghost use Rattle.static_distance.specs.Aim.{room, waiting, work, KeepsAim, IsAimed, AnswersDistance, IsWithin, AreFitting, HasLooked, HasNoMore};
 
     /// For grids of that many cells. Nothing is counted before it is aimed at a goal.
@@ -319,8 +322,9 @@ impl Distances {
         self.count(grid, span, batch)?;
         self.spread_up(grid, span, batch)?;
         self.spread_down(grid, span, batch)?;
-        self.spread_left(grid, span, batch, falling)?;
-        self.spread_right(grid, span, batch, rising)?;
+        self.spread_within(grid, span, batch, rising, falling)?;
+        self.spread_left(grid, span, batch)?;
+        self.spread_right(grid, span, batch)?;
         Ok(())
     }
 
@@ -415,26 +419,46 @@ impl Distances {
         self.enter(grid, under, word, span.row < self.toward.row)
     }
 
-    fn spread_left(
+    // In the row, to the cells of the same span. No free cell of it is led to closer, so those of both sides wait on the same level, and
+    // are one word.
+    fn spread_within(
         &mut self,
         grid: &Grid,
         span: Span,
         word: u64,
+        rising: u64,
         falling: u64,
     ) -> Result<(), Memory>
         requires span { IsSpan grid.now span }
         requires spans { AreSpans grid.now self.old }
+        requires rising { (i : ℕ) → IsSet rising i ↔ ((i < 64) × (span.column + i < self.old.toward.column)) }
         requires falling { (i : ℕ) → IsSet falling i ↔ ((i < 64) × (self.old.toward.column < span.column + i)) }
         requires inside { (i : ℕ) → IsSet word i → span.column + i < grid.now.width }
-        requires shut { IsShut grid.now Left span word self.old }
+        requires shut_left { IsShut grid.now Left span word self.old }
+        requires shut_right { IsShut grid.now Right span word self.old }
         ensures spans { OnOk result (AreSpans grid.now self.new) }
-        ensures count { OnOk result (waiting self.new ≤ waiting self.old + 2) }
+        ensures count { OnOk result (waiting self.new ≤ waiting self.old + 1) }
         ensures aim { KeepsAim self.old self.new }
         ensures marks { self.new.marks ≡ self.old.marks }
-        ensures spread { OnOk result (HasSpreadTo grid.now Left span word self.old self.new) }
+        ensures spread { OnOk result (HasMore grid.now (λ on n. IsLedWithin grid.now span word self.old on n) self.old self.new) }
     {
-        let away = lowered(without(word, falling));
-        self.enter(grid, span, away, false)?;
+        let away = either(
+            lowered(without(word, falling)),
+            raised(without(word, rising)),
+        );
+        self.enter(grid, span, away, false)
+    }
+
+    // To the last cell of the span before.
+    fn spread_left(&mut self, grid: &Grid, span: Span, word: u64) -> Result<(), Memory>
+        requires span { IsSpan grid.now span }
+        requires spans { AreSpans grid.now self.old }
+        ensures spans { OnOk result (AreSpans grid.now self.new) }
+        ensures count { OnOk result (waiting self.new ≤ waiting self.old + 1) }
+        ensures aim { KeepsAim self.old self.new }
+        ensures marks { self.new.marks ≡ self.old.marks }
+        ensures spread { OnOk result (HasMore grid.now (λ on n. IsLedOut grid.now Left span word self.old on n) self.old self.new) }
+    {
         if span.column == 0 || !is_set(word, 0) {
             return Ok(());
         }
@@ -446,25 +470,16 @@ impl Distances {
         self.enter(grid, before, single(63), self.toward.column < span.column)
     }
 
-    fn spread_right(
-        &mut self,
-        grid: &Grid,
-        span: Span,
-        word: u64,
-        rising: u64,
-    ) -> Result<(), Memory>
+    // To the first cell of the span after.
+    fn spread_right(&mut self, grid: &Grid, span: Span, word: u64) -> Result<(), Memory>
         requires span { IsSpan grid.now span }
         requires spans { AreSpans grid.now self.old }
-        requires rising { (i : ℕ) → IsSet rising i ↔ ((i < 64) × (span.column + i < self.old.toward.column)) }
-        requires shut { IsShut grid.now Right span word self.old }
         ensures spans { OnOk result (AreSpans grid.now self.new) }
-        ensures count { OnOk result (waiting self.new ≤ waiting self.old + 2) }
+        ensures count { OnOk result (waiting self.new ≤ waiting self.old + 1) }
         ensures aim { KeepsAim self.old self.new }
         ensures marks { self.new.marks ≡ self.old.marks }
-        ensures spread { OnOk result (HasSpreadTo grid.now Right span word self.old self.new) }
+        ensures spread { OnOk result (HasMore grid.now (λ on n. IsLedOut grid.now Right span word self.old on n) self.old self.new) }
     {
-        let away = raised(without(word, rising));
-        self.enter(grid, span, away, false)?;
         let _limits = grid.cells();
         if span.column + 64 >= grid.width() || !is_set(word, 63) {
             return Ok(());

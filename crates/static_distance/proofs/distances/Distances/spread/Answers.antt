@@ -3,7 +3,7 @@ use Rattle.std.specs.Prelude.{slice_get}
 use Rattle.std.proofs.lemmas.Option.{slice_get_read, same_Some}
 use Rattle.row_words.specs.Words.{IsSet}
 use Rattle.row_words.proofs.WordLemmas.{set_below}
-use Rattle.static_distance.proofs.SideLemmas.{free_inside}
+use Rattle.static_distance.proofs.RowLemmas.{free_inside, spread_row}
 use Rattle.static_distance.proofs.FloodLemmas.{batch_free, batch_low, passed_spans, shut_left, shut_right, spread_spans}
 use Rattle.static_distance.proofs.distances.Distances.spread.Goals as goal
 
@@ -34,8 +34,8 @@ count-requires-clause-on_level c =
     batch_low g c.args.span c.args.seeds free c.rising-rising.result c.falling-falling.result c.filled-batch.result now c.requires.span c.requires.known c.requires.spans at (λ i set. set_below free i (search rules) set)
     c.rising-rising.ensures c.falling-falling.ensures c.filled-batch.ensures c.requires.flood
 
-pub spread_left-requires-clause-inside : goal.spread_left-requires-clause-inside
-spread_left-requires-clause-inside c =
+pub spread_within-requires-clause-inside : goal.spread_within-requires-clause-inside
+spread_within-requires-clause-inside c =
     let g = c.args.grid.now in
     let now = c.args.self.now in
     let free = c.index-free.result.now in
@@ -43,8 +43,8 @@ spread_left-requires-clause-inside c =
     free_inside g c.args.span c.filled-batch.result free now c.requires.span c.requires.spans c.requires.known at (search rules) (batch_free g c.args.span c.args.seeds free c.rising-rising.result c.falling-falling.result c.filled-batch.result now c.requires.span c.requires.known c.requires.spans at (λ i set. set_below free i (search rules) set)
     c.rising-rising.ensures c.falling-falling.ensures c.filled-batch.ensures c.requires.flood)
 
-pub spread_left-requires-clause-shut : goal.spread_left-requires-clause-shut
-spread_left-requires-clause-shut c =
+pub spread_within-requires-clause-shut_left : goal.spread_within-requires-clause-shut_left
+spread_within-requires-clause-shut_left c =
     let g = c.args.grid.now in
     let now = c.args.self.now in
     let free = c.index-free.result.now in
@@ -54,16 +54,16 @@ spread_left-requires-clause-shut c =
     c.count.new.self c.spread_down.new.self c.in_ok-count.ensures.counted (c.spread_down.ensures.marks ∙ c.spread_up.ensures.marks)
     (c.in_ok-spread_down.ensures.spread.kept.toward ∙ (c.in_ok-spread_up.ensures.spread.kept.toward ∙ c.in_ok-count.ensures.counted.toward))
 
-pub spread_right-requires-clause-shut : goal.spread_right-requires-clause-shut
-spread_right-requires-clause-shut c =
+pub spread_within-requires-clause-shut_right : goal.spread_within-requires-clause-shut_right
+spread_within-requires-clause-shut_right c =
     let g = c.args.grid.now in
     let now = c.args.self.now in
     let free = c.index-free.result.now in
     let at : slice_get now.free.items c.args.span.number ≡ Some free = slice_get_read now.free.items (vec_len now.free) c.args.span.number free (search rules) (search rules) c.index-free.ensures in
     shut_right g c.args.span c.args.seeds free c.rising-rising.result c.falling-falling.result c.filled-batch.result now c.requires.span c.requires.known c.requires.spans at (λ i set. set_below free i (search rules) set)
     c.rising-rising.ensures c.falling-falling.ensures c.filled-batch.ensures c.requires.flood
-    c.count.new.self c.spread_left.new.self c.in_ok-count.ensures.counted (c.spread_left.ensures.marks ∙ (c.spread_down.ensures.marks ∙ c.spread_up.ensures.marks))
-    (c.in_ok-spread_left.ensures.spread.kept.toward ∙ (c.in_ok-spread_down.ensures.spread.kept.toward ∙ (c.in_ok-spread_up.ensures.spread.kept.toward ∙ c.in_ok-count.ensures.counted.toward)))
+    c.count.new.self c.spread_down.new.self c.in_ok-count.ensures.counted (c.spread_down.ensures.marks ∙ c.spread_up.ensures.marks)
+    (c.in_ok-spread_down.ensures.spread.kept.toward ∙ (c.in_ok-spread_up.ensures.spread.kept.toward ∙ c.in_ok-count.ensures.counted.toward))
 
 pub returns-clause-flood : goal.returns-clause-flood
 returns-clause-flood c =
@@ -73,5 +73,8 @@ returns-clause-flood c =
     let at : slice_get now.free.items c.args.span.number ≡ Some free = slice_get_read now.free.items (vec_len now.free) c.args.span.number free (search rules) (search rules) c.index-free.ensures in
     spread_spans g c.args.span c.args.seeds free c.rising-rising.result c.falling-falling.result c.filled-batch.result now c.requires.span c.requires.known c.requires.spans at (λ i set. set_below free i (search rules) set)
     c.rising-rising.ensures c.falling-falling.ensures c.filled-batch.ensures c.requires.flood
-    c.count.new.self c.spread_up.new.self c.spread_down.new.self c.spread_left.new.self c.spread_right.new.self c.in_ok-count.ensures.counted
-    c.in_ok-spread_up.ensures.spread c.in_ok-spread_down.ensures.spread c.in_ok-spread_left.ensures.spread c.in_ok-spread_right.ensures.spread c.in_ok-count.ensures.spans.marks_fit
+    c.count.new.self c.spread_up.new.self c.spread_down.new.self c.spread_right.new.self c.in_ok-count.ensures.counted
+    c.in_ok-spread_up.ensures.spread c.in_ok-spread_down.ensures.spread
+    (spread_row g c.args.span c.filled-batch.result c.spread_down.new.self c.spread_within.new.self c.spread_left.new.self c.spread_right.new.self
+    c.in_ok-spread_within.ensures.spread c.in_ok-spread_left.ensures.spread c.in_ok-spread_right.ensures.spread)
+    c.in_ok-count.ensures.spans.marks_fit
