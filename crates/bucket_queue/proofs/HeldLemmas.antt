@@ -6,7 +6,7 @@ use Rattle.std.specs.Prelude.{◌≡◌, ℕ, zero, suc, ◌+◌, ◌-◌, ◌<�
 use Rattle.std.specs.Global.{Global}
 use Rattle.bucket_queue.specs.Queue.{HasKey}
 use Rattle.bucket_queue.specs.Held.{Stands, AreThere, HasNone}
-use Rattle.bucket_queue.proofs.Lists.{slice_get-append_left, slice_get-append_at, slice_get-set_at, slice_get-set_other, set_cases}
+use Rattle.bucket_queue.proofs.Lists.{slice_get-append_left, slice_get-append_at, slice_get-set_at, slice_get-set_other, set_cases, added_cases}
 
 slice_get-take : {X : Type 0} (xs : List X) (n i : ℕ) → i < n → slice_get (take n xs) i ≡ slice_get xs i
 slice_get-take xs zero i less = absurd (omega arith)
@@ -58,6 +58,26 @@ module _ (bs : List (Vec ℕ Global)) (keys : List (Option ℕ)) (are : AreThere
           stands_on bs key b b' k there.0 o at
               (λ e h. ap (λ (xs : List ℕ). slice_get xs there.0) items ∙ (slice_get-append_left b.items (id ∷ []) there.0 (slice_get_within b.items there.0 o h) ∙ h)) there.1,
         )
+  ]
+
+  -- an id more, which keeps its key
+  pub there_more : (id : ℕ) → b'.items ≡ b.items ++ id ∷ [] → AreThere (set bs key b') keys
+  there_more id items o k has =
+      let there = are o k has in (
+        there.0,
+        stands_on bs key b b' k there.0 o at
+            (λ e h. ap (λ (xs : List ℕ). slice_get xs there.0) items ∙ (slice_get-append_left b.items (id ∷ []) there.0 (slice_get_within b.items there.0 o h) ∙ h)) there.1,
+      )
+
+  -- the next id, which has that key
+  pub there_added : b'.items ≡ b.items ++ length keys ∷ [] → AreThere (set bs key b') (keys ++ Some key ∷ [])
+  there_added items o k has = elim (added_cases keys (Some key) o (Some k) has) [
+    | inl old ↦ there_more (length keys) items o k old
+    | inr new ↦
+        let same : k ≡ key = same_Some k key (sym new.1) in
+        let last : slice_get b'.items (length b.items) ≡ Some o =
+        ap (λ (xs : List ℕ). slice_get xs (length b.items)) items ∙ (slice_get-append_at b.items (length keys) ∙ ap (λ (n : ℕ). Some n) (sym new.0)) in
+        (length b.items, record { bucket = b'; at_key = rw same (slice_get-set_at bs key b' (slice_get_within bs key b at)); at_place = last })
   ]
 
   -- the last id that has that key is taken, with all that stands after it

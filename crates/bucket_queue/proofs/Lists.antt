@@ -1,6 +1,6 @@
 -- What a list has at a place, after a write or at the end of another.
 use Rattle.std.proofs.Common.{arith, sym, ap, ◌∙◌, refl, inl, inr, set}
-use Rattle.std.proofs.lemmas.Option.{same_Some}
+use Rattle.std.proofs.lemmas.Option.{same_Some, none-some}
 use Rattle.std.proofs.lemmas.Bool.{cases_eq}
 use Rattle.std.specs.Prelude.{◌≡◌, ℕ, zero, suc, ◌<◌, ◌⊎◌, List, [], ◌∷◌, ◌++◌, Some, length, slice_get}
 
@@ -32,6 +32,13 @@ set_cases xs x i y s within at = elim (cases_eq i x) [
       inl (e, same_Some s y (sym at ∙ here)))
   | inr ne ↦ inr (ne, sym (slice_get-set_other xs x i y ne) ∙ at)
 ]
+
+-- what stands where one element more stands at the end
+pub added_cases : {X : Type 0} (xs : List X) (y : X) (i : ℕ) (x : X) → slice_get (xs ++ y ∷ []) i ≡ Some x → (slice_get xs i ≡ Some x) ⊎ ((i ≡ length xs) × (y ≡ x))
+added_cases [] y zero x at = inr (refl, same_Some y x at)
+added_cases [] y (suc i) x at = absurd (none-some x at)
+added_cases (z ∷ xs) y zero x at = inl at
+added_cases (z ∷ xs) y (suc i) x at = elim (added_cases xs y i x at) [ inl old ↦ inl old | inr new ↦ inr (ap (λ (n : ℕ). suc n) new.0, new.1) ]
 
 -- what stands there already is written
 pub set-same : {X : Type 0} (xs : List X) (i : ℕ) (y : X) → slice_get xs i ≡ Some y → set xs i y ≡ xs

@@ -1,4 +1,4 @@
-ghost use Rattle.std.specs.Prelude.{◌≡◌, ℕ, ◌<◌, ◌≤◌, Some, None, [], IfSome, IfNone, OnOk, OnErr, length, slice_get, slice_set};
+ghost use Rattle.std.specs.Prelude.{◌≡◌, ℕ, ◌<◌, ◌≤◌, Some, None, [], ◌∷◌, ◌++◌, IfSome, IfNone, OnOk, OnErr, length, slice_get, slice_set};
 ghost use Rattle.std.specs.Bool.{OnTrue, OnFalse};
 
 use std::alloc::AllocError;
@@ -39,6 +39,27 @@ impl Buckets {
     {
         self.by_key[key as usize].push(id as u32)?;
         self.keys[id] = Some(key);
+        Ok(())
+    }
+
+    // Adds the next id, with that key.
+    #[inline(always)]
+    pub(crate) fn add_at(&mut self, key: u32) -> Result<(), AllocError>
+        requires held { IsHeld self.old }
+        requires bound { key < length self.old.by_key.items }
+        ensures held { IsHeld self.new }
+        ensures count { length self.new.by_key.items ≡ length self.old.by_key.items }
+        ensures ok { OnOk result (self.new.keys.items ≡ self.old.keys.items ++ Some key ∷ []) }
+        ensures err { OnErr result (self.new.keys.items ≡ self.old.keys.items) }
+    {
+        let next = self.keys.len();
+        // The buckets have numbers of 32 bits.
+        if next >= u32::MAX as usize {
+            return Err(AllocError);
+        }
+        // Where there is no room for its key, the number is left in the bucket, and is passed there.
+        self.by_key[key as usize].push(next as u32)?;
+        self.keys.push(Some(key))?;
         Ok(())
     }
 

@@ -62,6 +62,20 @@ impl BucketQueue {
         Ok(())
     }
 
+    /// One id more, the next number, queued with that key: what `add` and then `put` come to.
+    #[inline(always)]
+    pub fn add_at(&mut self, key: u32) -> Result<(), AllocError>
+        requires low { self.old.floor ≤ key }
+        requires high { key ≤ self.old.bound }
+        ensures ok { OnOk result (self.new ≡ record self.old { keys = self.old.keys ++ Some key ∷ [] }) }
+        ensures err { OnErr result (self.new ≡ self.old) }
+    {
+        // First, so that the bucket is cleared even where no key was added.
+        self.end = self.end.max(key as usize + 1);
+        self.buckets.add_at(key)?;
+        Ok(())
+    }
+
     /// The key of an id, or none where it isn't queued.
     pub fn key_of(&self, id: usize) -> Option<u32>
         requires { id < length self.now.keys }

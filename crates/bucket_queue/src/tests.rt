@@ -44,3 +44,17 @@ fn no_ids_after_clearing(rt: HostRuntime) {
     queue.put(0, 1).expect(&rt, "memory");
     assert_eq!(rt; queue.take(9), Some(0));
 }
+
+#[test]
+fn added_with_its_key(rt: HostRuntime) {
+    let mut queue = BucketQueue::new(rt.alloc(), 9).expect(&rt, "memory");
+    queue.add_at(2).expect(&rt, "memory");
+    queue.add().expect(&rt, "memory");
+    queue.put(1, 8).expect(&rt, "memory");
+    queue.add_at(2).expect(&rt, "memory");
+    queue.put(0, 5).expect(&rt, "memory");
+    for wanted in [2, 0, 1] {
+        assert_eq!(rt; queue.take(9), Some(wanted));
+    }
+    assert_eq!(rt; queue.take(9), None);
+}
