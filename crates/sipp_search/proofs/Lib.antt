@@ -19,3 +19,4 @@ pub mod Paused
 pub mod Counted
 pub mod Entering
 pub mod Growing
+pub mod Fresh

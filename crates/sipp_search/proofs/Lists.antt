@@ -51,6 +51,11 @@ set_same [] i y at = refl
 set_same (x ∷ xs) zero y at = ap (λ z. z ∷ xs) (sym (same_Some x y at))
 set_same (x ∷ xs) (suc i) y at = ap (λ zs. x ∷ zs) (set_same xs i y at)
 
+-- the last element is replaced
+pub set_last : {X : Type 0} (xs : List X) (x y : X) → set (xs ++ x ∷ []) (length xs) y ≡ xs ++ y ∷ []
+set_last [] x y = refl
+set_last (z ∷ xs) x y = ap (λ zs. z ∷ zs) (set_last xs x y)
+
 -- places of a mapped list
 pub stands_map : {X Y : Type 0} (f : X → Y) (xs : List X) (i : ℕ) (x : X) → slice_get xs i ≡ Some x → slice_get (map f xs) i ≡ Some (f x)
 stands_map f [] i x at = absurd (none-some x at)

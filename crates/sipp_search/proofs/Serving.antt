@@ -14,11 +14,13 @@ use Rattle.bucket_queue.specs.Queue.{Queue}
 use Rattle.sipp_search.specs.declared.states.Spot.{Spot}
 use Rattle.sipp_search.specs.declared.states.State.{State}
 use Rattle.sipp_search.specs.declared.states.Arena.{Arena}
+use Rattle.sipp_search.specs.declared.states.Mark.{Mark}
+use Rattle.sipp_search.specs.declared.states.Mark.TheVariants.{Unseen}
 use Rattle.sipp_search.specs.Marks.{spots_of, keys_of, unseen, offered, offered_mark}
 use Rattle.sipp_search.specs.Arena.{IsOfArena, IsArena}
 use Rattle.sipp_search.proofs.Beginning.{bound_of, empty_arena_right}
 use Rattle.sipp_search.specs.Running.{IsReady, IsSound, Serves, HasGrown}
-use Rattle.sipp_search.proofs.Marking.{spots-set}
+use Rattle.sipp_search.proofs.Marking.{marked, spots-set}
 use Rattle.sipp_search.proofs.Chains.{arena_added}
 
 module _ (g : Terrain) (q : Request) (horizon : ℕ) (known : ℕ → Option (List Record)) (size : ℕ) (arena : Arena) where
@@ -49,15 +51,15 @@ distance_told g aim goal c o left aims told is = subst (λ (z : Cell). IsDistanc
 pub no_way_told : (g : Terrain) (aim goal c : Cell) (o : Option ℕ) → aim ≡ goal → AnswersDistance g aim c o → o ≡ None → (k : ℕ) → IsWay g goal c k → ⊥
 no_way_told g aim goal c o aims told is k way = (rw is at told) k (subst (λ (z : Cell). IsWay g z c k) (sym aims) way)
 
--- a state is added whose interval has none
-pub sound_added : (g : Terrain) (q : Request) (horizon : ℕ) (known : ℕ → Option (List Record)) (size : ℕ) (old new : Arena) (p : Spot) (older : ℕ) → IsSound g q horizon known size old
+-- a state is added whose interval has none, with any mark
+pub sound_marked : (g : Terrain) (q : Request) (horizon : ℕ) (known : ℕ → Option (List Record)) (size : ℕ) (old new : Arena) (p : Spot) (older : ℕ) (m : Mark) → IsSound g q horizon known size old
     → IsOfArena g q.goal horizon known p → ((i : ℕ) (r : Spot) → slice_get (spots_of old.states.items) i ≡ Some r → r.cell ≡ p.cell → r.interval ≢ p.interval)
-    → slice_get old.newest p.cell.0 ≡ Some older → new.states.items ≡ old.states.items ++ unseen (record p { older = older }) ∷ []
+    → slice_get old.newest p.cell.0 ≡ Some older → new.states.items ≡ old.states.items ++ marked (record p { older = older }) m ∷ []
     → new.newest ≡ slice_set old.newest p.cell.0 (suc (length old.states.items)) → new.queue ≡ record old.queue { keys = keys_of new.states.items } → new.distances ≡ old.distances
     → IsSound g q horizon known size new
-sound_added g q horizon known size old new p older sound of new_here newest_is states newest queue distances =
+sound_marked g q horizon known size old new p older m sound of new_here newest_is states newest queue distances =
     let spots : spots_of new.states.items ≡ spots_of old.states.items ++ record p { older = older } ∷ [] =
-    ap spots_of states ∙ map-append (λ (z : State). z.spot) old.states.items (unseen (record p { older = older }) ∷ []) in
+    ap spots_of states ∙ map-append (λ (z : State). z.spot) old.states.items (marked (record p { older = older }) m ∷ []) in
     let count : length (spots_of old.states.items) ≡ length old.states.items = length-map old.states.items (λ (z : State). z.spot) in
     let places : new.newest ≡ slice_set old.newest p.cell.0 (suc (length (spots_of old.states.items))) =
     newest ∙ ap (λ (n : ℕ). slice_set old.newest p.cell.0 (suc n)) (sym count) in
@@ -72,6 +74,15 @@ sound_added g q horizon known size old new p older sound of new_here newest_is s
       goal_is = ap (λ (d : Distances). d.goal) distances ∙ sound.goal_is;
       room_is = ap room distances ∙ sound.room_is;
     }
+
+-- one that nobody has seen
+pub sound_added : (g : Terrain) (q : Request) (horizon : ℕ) (known : ℕ → Option (List Record)) (size : ℕ) (old new : Arena) (p : Spot) (older : ℕ) → IsSound g q horizon known size old
+    → IsOfArena g q.goal horizon known p → ((i : ℕ) (r : Spot) → slice_get (spots_of old.states.items) i ≡ Some r → r.cell ≡ p.cell → r.interval ≢ p.interval)
+    → slice_get old.newest p.cell.0 ≡ Some older → new.states.items ≡ old.states.items ++ unseen (record p { older = older }) ∷ []
+    → new.newest ≡ slice_set old.newest p.cell.0 (suc (length old.states.items)) → new.queue ≡ record old.queue { keys = keys_of new.states.items } → new.distances ≡ old.distances
+    → IsSound g q horizon known size new
+sound_added g q horizon known size old new p older sound of new_here newest_is states newest queue distances =
+    sound_marked g q horizon known size old new p older Unseen sound of new_here newest_is states newest queue distances
 
 -- an arrival is offered to a state
 pub sound_offered : (g : Terrain) (q : Request) (horizon : ℕ) (known : ℕ → Option (List Record)) (size : ℕ) (old new : Arena) (j e : ℕ) (s : State) → IsSound g q horizon known size old

@@ -31,3 +31,7 @@ pub record IsArena (g : Terrain) (goal : Cell) (horizon : ℕ) (known : ℕ → 
   pub each : (j : ℕ) (p : Spot) → slice_get spots j ≡ Some p → IsOfArena g goal horizon known p
   pub once : (i j : ℕ) (p r : Spot) → slice_get spots i ≡ Some p → slice_get spots j ≡ Some r → p.cell ≡ r.cell → p.interval ≡ r.interval → i ≡ j
   pub chained : AreChained spots newest
+
+-- the spots of the cell come after fewer of its records than so many
+abbrev pub ComeBefore : List Spot → Cell → ℕ → Type 0
+ComeBefore spots c count = (i : ℕ) (p : Spot) → slice_get spots i ≡ Some p → p.cell ≡ c → p.place < count

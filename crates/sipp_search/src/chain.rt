@@ -5,7 +5,7 @@ ghost use Rattle.static_distance.specs.Distance.{IsWay, IsDistance};
 ghost use Rattle.static_distance.specs.Levels.{IsPlaceOf};
 ghost use Rattle.sipp_search.specs.declared.states.State.{State as AState};
 ghost use Rattle.sipp_search.specs.declared.states.Spot.{Spot as ASpot};
-ghost use Rattle.sipp_search.specs.Marks.{spots_of, keys_of, unseen};
+ghost use Rattle.sipp_search.specs.Marks.{spots_of, keys_of, unseen, queued};
 ghost use Rattle.sipp_search.specs.Arena.{AreChained};
 ghost use Rattle.sipp_search.specs.Running.{IsReady, IsSound, Serves};
 
@@ -85,6 +85,36 @@ pub fn add_state(arena: &mut Arena, spot: Spot) -> Result<usize, Memory>
     })?;
     arena.newest.set(spot.cell.0 as usize, id as u32 + 1);
     Ok(id)
+}
+
+// Adds a state that is queued at an arrival, with that key.
+#[inline(always)]
+pub fn add_queued(arena: &mut Arena, spot: Spot, arrival: u32, key: u32) -> Result<(), Memory>
+    requires cell { spot.cell.0 < length arena.old.newest }
+    requires paired { arena.old.queue.keys ≡ keys_of arena.old.states.items }
+    requires key { key ≡ arrival + spot.left }
+    requires low { arena.old.queue.floor ≤ key }
+    requires high { key ≤ arena.old.queue.bound }
+    ensures states { OnOk result ((older : ℕ) × (slice_get arena.old.newest spot.cell.0 ≡ Some older) × (arena.new.states.items ≡ arena.old.states.items ++ queued (record spot { older = older }) arrival ∷ [])) }
+    ensures newest { OnOk result (arena.new.newest ≡ slice_set arena.old.newest spot.cell.0 (suc (length arena.old.states.items))) }
+    ensures queue { OnOk result (arena.new.queue ≡ record arena.old.queue { keys = keys_of arena.new.states.items }) }
+    ensures bound { arena.new.queue.bound ≡ arena.old.queue.bound }
+    ensures count { length arena.new.newest ≡ length arena.old.newest }
+    ensures distances { arena.new.distances ≡ arena.old.distances }
+{
+    let id = arena.states.len();
+    // The places of more states have no room in `newest`.
+    if id >= u32::MAX as usize {
+        return Err(Memory);
+    }
+    let older = arena.newest.get(spot.cell.0 as usize);
+    arena.queue.add_at(key)?;
+    arena.states.push(State {
+        spot: Spot { older, ..spot },
+        mark: Mark::Queued(arrival),
+    })?;
+    arena.newest.set(spot.cell.0 as usize, id as u32 + 1);
+    Ok(())
 }
 
 // The static distance from a cell to the goal; none where no way leads there.

@@ -11,12 +11,12 @@ ghost use Rattle.sipp_search.specs.declared.states.State.{State as AState};
 ghost use Rattle.sipp_search.specs.declared.states.Mark.TheVariants.{Queued};
 ghost use Rattle.sipp_search.specs.Marks.{spots_of, keys_of, offered, offered_mark};
 ghost use Rattle.sipp_search.specs.Entry.{CanEnter};
-ghost use Rattle.sipp_search.specs.Arena.{IsOfArena};
+ghost use Rattle.sipp_search.specs.Arena.{IsOfArena, ComeBefore};
 ghost use Rattle.sipp_search.specs.Progress.{IsUnderWay, Improves};
 ghost use Rattle.sipp_search.specs.Running.{IsReady, IsSound, Serves, KeepsSpots, HasGrown};
 ghost use Rattle.sipp_search.specs.Visiting.{IsSource, HasLed, HasLedPast, HasLedInto};
 
-use crate::chain::{add_state, known_at, place_at};
+use crate::chain::{add_queued, add_state, known_at, place_at};
 use crate::states::{Arena, Mark, Spot, State};
 use crate::task::Task;
 use bucket_queue::BucketQueue;
@@ -40,6 +40,7 @@ fn first_entry(from: Interval, to: Interval, since: u32) -> Option<u32>
 }
 
 // Whether the move out of that spot into the other one that arrives at that time is an exchange.
+#[inline(always)]
 fn is_barred(here: &Calendar, there: &Calendar, from: Spot, to: Spot, entry: u32) -> bool
     requires begun { from.interval.from < entry }
     requires until { entry ≤ from.interval.to + 1 }
@@ -108,6 +109,7 @@ fn is_news(arena: &Arena, known: Option<usize>, entry: u32) -> bool
 }
 
 // The place of the state that is known, or of an unseen one that is added.
+#[inline(always)]
 fn known_or_new<V: CalendarView>(
     task: &Task,
     view: &V,
@@ -190,6 +192,52 @@ fn enter<V: CalendarView>(
     Ok(())
 }
 
+// Makes the earliest move out of the spot, where the agent is since `arrival`, into another one, which has no state yet.
+#[inline(always)]
+fn enter_new<V: CalendarView>(
+    task: &Task,
+    view: &V,
+    arena: &mut Arena,
+    from: Spot,
+    arrival: u32,
+    to: Spot,
+) -> Result<(), Memory>
+    requires ready { IsReady task.now.grid.now task.now.request task.now.horizon (V.size view.now) }
+    requires sound { IsSound task.now.grid.now task.now.request task.now.horizon (V.known view.now) (V.size view.now) arena.old }
+    requires placed { (i : ℕ) × (slice_get (spots_of arena.old.states.items) i ≡ Some from) }
+    requires arrived { IsIn arrival from.interval }
+    requires to { IsOfArena task.now.grid.now task.now.request.goal task.now.horizon (V.known view.now) to }
+    requires new { (i : ℕ) (p : ASpot) → slice_get (spots_of arena.old.states.items) i ≡ Some p → p.cell ≡ to.cell → p.interval ≢ to.interval }
+    requires low { arena.old.queue.floor ≤ arrival + 1 + to.left }
+    ensures serves { Serves task.now.horizon (length task.now.grid.now.cells) arena.new }
+    ensures sound { OnOk result (IsSound task.now.grid.now task.now.request task.now.horizon (V.known view.now) (V.size view.now) arena.new) }
+    ensures floor { OnOk result (arena.new.queue.floor ≡ arena.old.queue.floor) }
+    ensures spots { OnOk result (KeepsSpots arena.old.states.items arena.new.states.items) }
+    ensures improves { OnOk result (Improves arena.old.states.items arena.new.states.items) }
+    ensures led { OnOk result ((a : Assignment) (x : ℕ) → Agrees a (V.known view.now) → IsSource task.now.grid.now task.now.request task.now.horizon a from arrival to.cell
+        → IsUnderWay task.now.grid.now task.now.request task.now.horizon a arena.old.states.items arena.old.queue.floor x
+        → IsUnderWay task.now.grid.now task.now.request task.now.horizon a arena.new.states.items arena.old.queue.floor x
+        × HasLedInto task.now.grid.now task.now.request task.now.horizon a arena.new.states.items from arrival to.cell to.interval) }
+    ensures before { OnOk result ((n : ℕ) → ComeBefore (spots_of arena.old.states.items) to.cell n → to.place < n → ComeBefore (spots_of arena.new.states.items) to.cell n) }
+{
+    let Some(entry) = first_entry(from.interval, to.interval, arrival) else {
+        return Ok(());
+    };
+    let Some(room) = task.horizon.checked_sub(entry) else {
+        return Ok(());
+    };
+    if to.left > room {
+        return Ok(());
+    }
+    // Where the earliest move is an exchange, no later one is free.
+    let here = view.calendar(from.cell);
+    if is_barred(here, view.calendar(to.cell), from, to, entry) {
+        return Ok(());
+    }
+    add_queued(arena, to, entry, entry + to.left)?;
+    Ok(())
+}
+
 // Makes the moves out of the spot, where the agent is since `arrival`, into the safe intervals of the cell that come after
 // so many of its records or more.
 fn enter_later<V: CalendarView>(
@@ -241,9 +289,97 @@ fn enter_later<V: CalendarView>(
     Ok(())
 }
 
+// Makes the moves out of the spot, where the agent is since `arrival`, into the safe intervals of the cell that come after
+// so many of its records or more. The cell has no state of any of them yet, so none is looked for.
+fn enter_fresh<V: CalendarView>(
+    task: &Task,
+    view: &V,
+    arena: &mut Arena,
+    from: Spot,
+    arrival: u32,
+    to: Cell,
+    left: u32,
+    first: usize,
+) -> Result<(), Memory>
+    requires ready { IsReady task.now.grid.now task.now.request task.now.horizon (V.size view.now) }
+    requires sound { IsSound task.now.grid.now task.now.request task.now.horizon (V.known view.now) (V.size view.now) arena.old }
+    requires placed { (i : ℕ) × (slice_get (spots_of arena.old.states.items) i ≡ Some from) }
+    requires arrived { IsIn arrival from.interval }
+    requires cell { to.0 < V.size view.now }
+    requires there { IsSome (V.known view.now to.0) }
+    requires distance { IsDistance task.now.grid.now task.now.request.goal to left }
+    requires low { arena.old.queue.floor ≤ arrival + 1 + left }
+    requires fresh { ComeBefore (spots_of arena.old.states.items) to first }
+    ensures serves { Serves task.now.horizon (length task.now.grid.now.cells) arena.new }
+    ensures sound { OnOk result (IsSound task.now.grid.now task.now.request task.now.horizon (V.known view.now) (V.size view.now) arena.new) }
+    ensures floor { OnOk result (arena.new.queue.floor ≡ arena.old.queue.floor) }
+    ensures spots { OnOk result (KeepsSpots arena.old.states.items arena.new.states.items) }
+    ensures improves { OnOk result (Improves arena.old.states.items arena.new.states.items) }
+    ensures led { OnOk result ((a : Assignment) (x : ℕ) → Agrees a (V.known view.now) → IsSource task.now.grid.now task.now.request task.now.horizon a from arrival to
+        → IsUnderWay task.now.grid.now task.now.request task.now.horizon a arena.old.states.items arena.old.queue.floor x
+        → IsUnderWay task.now.grid.now task.now.request task.now.horizon a arena.new.states.items arena.old.queue.floor x
+        × HasLedPast task.now.grid.now task.now.request task.now.horizon a arena.new.states.items from arrival to first) }
+{
+    let there = view.calendar(to);
+    let records = there.records();
+    for place in first..records.len() + 1 {
+        // No move leads behind a record that is there after the interval.
+        if place > 0 && records[place - 1].to > from.interval.to {
+            return Ok(());
+        }
+        if let Some(interval) = gap_at(there, place, task.horizon) {
+            let spot = Spot {
+                cell: to,
+                interval,
+                left,
+                place,
+                older: 0,
+            };
+            enter_new(task, view, arena, from, arrival, spot)?;
+        }
+    }
+    Ok(())
+}
+
+// Makes the moves out of the spot, where the agent is since `arrival`, into the safe intervals of a known cell beside it that
+// has no state yet.
+#[inline(always)]
+pub fn enter_first<V: CalendarView>(
+    task: &Task,
+    view: &V,
+    arena: &mut Arena,
+    from: Spot,
+    arrival: u32,
+    to: Cell,
+    left: u32,
+) -> Result<(), Memory>
+    requires ready { IsReady task.now.grid.now task.now.request task.now.horizon (V.size view.now) }
+    requires sound { IsSound task.now.grid.now task.now.request task.now.horizon (V.known view.now) (V.size view.now) arena.old }
+    requires placed { (i : ℕ) × (slice_get (spots_of arena.old.states.items) i ≡ Some from) }
+    requires arrived { IsIn arrival from.interval }
+    requires cell { to.0 < V.size view.now }
+    requires there { IsSome (V.known view.now to.0) }
+    requires distance { IsDistance task.now.grid.now task.now.request.goal to left }
+    requires low { arena.old.queue.floor ≤ arrival + 1 + left }
+    requires fresh { slice_get arena.old.newest to.0 ≡ Some 0 }
+    ensures serves { Serves task.now.horizon (length task.now.grid.now.cells) arena.new }
+    ensures sound { OnOk result (IsSound task.now.grid.now task.now.request task.now.horizon (V.known view.now) (V.size view.now) arena.new) }
+    ensures floor { OnOk result (arena.new.queue.floor ≡ arena.old.queue.floor) }
+    ensures spots { OnOk result (KeepsSpots arena.old.states.items arena.new.states.items) }
+    ensures improves { OnOk result (Improves arena.old.states.items arena.new.states.items) }
+    ensures led { OnOk result ((a : Assignment) (x : ℕ) → Agrees a (V.known view.now) → IsSource task.now.grid.now task.now.request task.now.horizon a from arrival to
+        → IsUnderWay task.now.grid.now task.now.request task.now.horizon a arena.old.states.items arena.old.queue.floor x
+        → IsUnderWay task.now.grid.now task.now.request task.now.horizon a arena.new.states.items arena.old.queue.floor x
+        × HasLed task.now.grid.now task.now.request task.now.horizon a arena.new.states.items from arrival to) }
+{
+    let first = begun_by(view.calendar(to), from.place, arrival + 1);
+    enter_fresh(task, view, arena, from, arrival, to, left, first)?;
+    Ok(())
+}
+
 // Makes the moves out of the spot, where the agent is since `arrival`, into the safe intervals of a known cell beside it.
 #[inline(always)]
-pub fn enter_each<V: CalendarView>(
+fn enter_each<V: CalendarView>(
     task: &Task,
     view: &V,
     arena: &mut Arena,

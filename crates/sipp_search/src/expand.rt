@@ -11,7 +11,7 @@ ghost use Rattle.sipp_search.specs.Visiting.{HasLed};
 ghost use Rattle.static_distance.specs.Levels.{IsPlaceOf};
 
 use crate::chain::way_counted;
-use crate::enter::{enter_each, move_into};
+use crate::enter::{enter_first, move_into};
 use crate::states::{Arena, Spot, Taken};
 use crate::task::Task;
 use calendars::CalendarView;
@@ -38,6 +38,7 @@ fn move_first<V: CalendarView>(
     requires taken { arena.old.queue.floor ≡ arrival + from.left }
     requires beside { IsBeside task.now.grid.now side from.cell to }
     requires inside { to.0 < length task.now.grid.now.cells }
+    requires fresh { slice_get arena.old.newest to.0 ≡ Some 0 }
     ensures cells { V.size view.new ≡ V.size view.old }
     ensures went { V.went view.old view.new }
     ensures kept { KeepsKnown (V.known view.old) (V.known view.new) }
@@ -56,7 +57,7 @@ fn move_first<V: CalendarView>(
         return Ok(());
     };
     view.load(to)?;
-    enter_each(task, &*view, arena, from, arrival, to, left)?;
+    enter_first(task, &*view, arena, from, arrival, to, left)?;
     Ok(())
 }
 

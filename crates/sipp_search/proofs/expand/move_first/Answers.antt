@@ -14,13 +14,13 @@ returns-in_default-clause-led g c = λ a x agrees arrived way.
           c.args.to c.requires.beside none,
     ))
 
-pub enter_each-requires-clause-sound : goal.enter_each-requires-clause-sound
-enter_each-requires-clause-sound g c =
+pub enter_first-requires-clause-sound : goal.enter_first-requires-clause-sound
+enter_first-requires-clause-sound g c =
     rw c.in_ok-load.ensures.same_size (sound_known c.args.task.now.grid.now c.args.task.now.request c.args.task.now.horizon (g.V.CalendarView.known c.args.view.now)
     (g.V.CalendarView.known c.load.new.self) (g.V.CalendarView.size c.args.view.now) c.way_counted.new.arena c.in_ok-load.ensures.kept c.in_ok-left.ensures.sound)
 
-pub enter_each-requires-clause-low : goal.enter_each-requires-clause-low
-enter_each-requires-clause-low g c =
+pub enter_first-requires-clause-low : goal.enter_first-requires-clause-low
+enter_first-requires-clause-low g c =
     let of = c.requires.sound.arranged.each c.requires.placed.0 c.args.from c.requires.placed.1 in
     let distance : IsDistance c.args.task.now.grid.now c.args.task.now.request.goal c.args.to c.in-Some.left = rw c.in-Some.is at c.in_ok-left.ensures.some in
     let low : c.args.from.left ≤ c.in-Some.left + 1 =
@@ -38,7 +38,7 @@ returns-clause-led g c = λ a x agrees arrived way.
     let distance : IsDistance terrain q.goal c.args.to c.in-Some.left = rw c.in-Some.is at c.in_ok-left.ensures.some in
     let source = source_of terrain q horizon a known c.args.from c.args.arrival c.args.side c.args.to c.in-Some.left c.requires.ready.bound of' agrees arrived c.requires.beside distance in
     let floor : c.way_counted.new.arena.queue.floor ≡ c.args.arena.now.queue.floor = ap (λ (z : Queue). z.floor) c.in_ok-left.ensures.queue in
-    let led = c.in_ok-enter_each.ensures.led a x agrees source (rw (c.in_ok-left.ensures.states, floor) way) in (
-      subst (λ (n : ℕ). IsUnderWay terrain q horizon a c.enter_each.new.arena.states.items n x) floor led.0,
-      led_only terrain q horizon a c.enter_each.new.arena.states.items c.args.from c.args.arrival c.args.side c.args.to c.requires.beside led.1,
+    let led = c.in_ok-enter_first.ensures.led a x agrees source (rw (c.in_ok-left.ensures.states, floor) way) in (
+      subst (λ (n : ℕ). IsUnderWay terrain q horizon a c.enter_first.new.arena.states.items n x) floor led.0,
+      led_only terrain q horizon a c.enter_first.new.arena.states.items c.args.from c.args.arrival c.args.side c.args.to c.requires.beside led.1,
     ))

@@ -1,0 +1,89 @@
+use Rattle.std.proofs.Common.{arith, subst, None, sym, ap, ◌∙◌, ◌≡◌, ◌+◌, ◌-◌, ◌<◌, ℕ, length}
+use Rattle.std.proofs.lemmas.Option.{slice_get-get_or}
+use Rattle.safe_intervals.specs.Safe.{NoneSafeAt}
+use Rattle.sipp_search.specs.declared.states.Spot.{Spot}
+use Rattle.sipp_search.specs.Arena.{IsOfArena}
+use Rattle.sipp_search.specs.Marks.{spots_of}
+use Rattle.sipp_search.specs.Progress.{IsUnderWay}
+use Rattle.sipp_search.proofs.Marking.{improves-trans}
+use Rattle.sipp_search.proofs.Places.{in_gap}
+use Rattle.sipp_search.proofs.Entering.{between_more, between_none, past_all, past_barred}
+use Rattle.sipp_search.proofs.Growing.{new_there}
+use Rattle.sipp_search.proofs.Fresh.{none_at, before_more}
+use Rattle.sipp_search.proofs.enter.enter_fresh.Goals.{in-Some+in_ok-enter_new, in_default}
+use Rattle.sipp_search.proofs.enter.enter_fresh.Goals as goal
+
+pub enter_new-requires-clause-to : goal.enter_new-requires-clause-to
+enter_new-requires-clause-to g c =
+    record { records = c.calendar-there.result.now; known_is = c.calendar-there.ensures; safe = c.in-Some.ensures.safe; distance = c.requires.distance; place_is = c.in-Some.ensures.place_is }
+
+pub enter_new-requires-clause-new : goal.enter_new-requires-clause-new
+enter_new-requires-clause-new g c =
+    let spot : Spot = record { cell = c.args.to; interval = c.in-Some.interval; left = c.args.left; place = c.loop-place.place; older = 0 } in
+    let of : IsOfArena c.args.task.now.grid.now c.args.task.now.request.goal c.args.task.now.horizon (g.V.CalendarView.known c.args.view.now) spot =
+    record { records = c.calendar-there.result.now; known_is = c.calendar-there.ensures; safe = c.in-Some.ensures.safe; distance = c.requires.distance; place_is = c.in-Some.ensures.place_is } in
+    new_there c.args.task.now.grid.now c.args.task.now.request.goal c.args.task.now.horizon (g.V.CalendarView.known c.args.view.now) c.loop-place.arena.states.items c.loop-place.arena.newest
+    c.loop-place.invariant.sound.arranged spot of c.records-records.ensures.ordered None (none_at c.loop-place.arena.states.items c.args.to c.loop-place.place c.loop-place.invariant.fresh)
+
+pub returns-clause-led : goal.returns-clause-led
+returns-clause-led g c = λ a x agrees source way.
+    (let both = c.loop-place.invariant.led a x agrees source way in
+    let there : a c.args.to.0 ≡ c.calendar-there.result.now = agrees c.args.to.0 _ c.calendar-there.ensures in (
+      both.0,
+      past_all c.args.task.now.grid.now c.args.task.now.request c.args.task.now.horizon a c.args.from c.args.arrival c.args.to c.calendar-there.result.now there
+          c.loop-place.arena.states.items c.args.first c.loop-place.place both.1 (omega (arith, c.loop-place-test.false, ap length c.records-records.ensures.value)),
+    ))
+
+pub returns-then-records-place-clause-led : goal.returns-then-records-place-clause-led
+returns-then-records-place-clause-led g c = λ a x agrees source way.
+    (let both = c.loop-place.invariant.led a x agrees source way in
+    let records = c.calendar-there.result.now in
+    let there : a c.args.to.0 ≡ records = agrees c.args.to.0 _ c.calendar-there.ensures in
+    let inside : c.loop-place.place - 1 < length records = omega (arith, c.if-place-gt0.true, c.loop-place-test.true, ap length c.records-records.ensures.value) in (
+      both.0,
+      past_barred c.args.task.now.grid.now c.args.task.now.request c.args.task.now.horizon a c.args.from c.args.arrival c.args.to records there
+          c.loop-place.arena.states.items c.args.first c.loop-place.place _ both.1 c.if-place-gt0.true (slice_get-get_or records (c.loop-place.place - 1) _ inside)
+          (rw c.records-records.ensures.value at c.if-records-place.true),
+    ))
+
+pub loop-place-preserved : goal.loop-place-preserved
+loop-place-preserved g c = elim c.match-gap_at.branch [
+  | in-Some+in_ok-enter_new w ↦
+      rw w.arena-is (record {
+        sound = w.in_ok-enter_new.ensures.sound;
+        floor = w.in_ok-enter_new.ensures.floor ∙ c.loop-place.invariant.floor;
+        spots = λ i p at. w.in_ok-enter_new.ensures.spots i p (c.loop-place.invariant.spots i p at);
+        improves = improves-trans _ _ _ c.loop-place.invariant.improves w.in_ok-enter_new.ensures.improves;
+        fresh = w.in_ok-enter_new.ensures.before (c.loop-place.place + 1) (before_more (spots_of c.loop-place.arena.states.items) c.args.to c.loop-place.place c.loop-place.invariant.fresh) (omega arith);
+        led = λ a x agrees source way.
+            (let terrain = c.args.task.now.grid.now in
+            let q = c.args.task.now.request in
+            let horizon = c.args.task.now.horizon in
+            let records = c.calendar-there.result.now in
+            let there : a c.args.to.0 ≡ records = agrees c.args.to.0 _ c.calendar-there.ensures in
+            let before = c.loop-place.invariant.led a x agrees source way in
+            let step = w.in_ok-enter_new.ensures.led a x agrees source
+            (subst (λ (n : ℕ). IsUnderWay terrain q horizon a c.loop-place.arena.states.items n x) (sym c.loop-place.invariant.floor) before.0) in (
+              subst (λ (n : ℕ). IsUnderWay terrain q horizon a w.enter_new.new.arena.states.items n x) c.loop-place.invariant.floor step.0,
+              between_more terrain q horizon a c.args.from c.args.arrival c.args.to records there c.loop-place.arena.states.items w.enter_new.new.arena.states.items c.args.first c.loop-place.place
+                  w.in-Some.interval w.in_ok-enter_new.ensures.improves before.1 step.1
+                  (in_gap records horizon c.loop-place.place w.in-Some.interval c.records-records.ensures.ordered w.in-Some.ensures),
+            ));
+      })
+  | in_default w ↦
+      let none : NoneSafeAt c.calendar-there.result.now c.args.task.now.horizon c.loop-place.place = rw w.in_default.is at c.gap_at.ensures in
+      rw w.arena-is (record {
+        sound = c.loop-place.invariant.sound;
+        floor = c.loop-place.invariant.floor;
+        spots = c.loop-place.invariant.spots;
+        improves = c.loop-place.invariant.improves;
+        fresh = before_more (spots_of c.loop-place.arena.states.items) c.args.to c.loop-place.place c.loop-place.invariant.fresh;
+        led = λ a x agrees source way.
+            (let there : a c.args.to.0 ≡ c.calendar-there.result.now = agrees c.args.to.0 _ c.calendar-there.ensures in
+            let before = c.loop-place.invariant.led a x agrees source way in (
+              before.0,
+              between_none c.args.task.now.grid.now c.args.task.now.request c.args.task.now.horizon a c.args.from c.args.arrival c.args.to c.calendar-there.result.now there
+                  c.loop-place.arena.states.items c.args.first c.loop-place.place before.1 none,
+            ));
+      })
+]
