@@ -39,6 +39,13 @@ exchange_covers from (r ∷ rs) t order h = elim (or_cases (ends_into from t r) 
   | inr later ↦ exchange_covers from rs t order later
 ]
 
+-- no move is an exchange where the cell that is left is free just after
+pub unbarred_free : (from to : List Record) (t : ℕ) → InOrder from → covers from (t + 1) ≡ false → is_exchange from to t ≡ false
+unbarred_free from to t order free = elim (cases_Bool (is_exchange from to t)) [
+  | inr unbarred ↦ unbarred
+  | inl barred ↦ absurd (false≢true (sym free ∙ exchange_covers from to t order barred))
+]
+
 module _ (here there : List Record) (from to : Interval) (since arrival : ℕ) (order : InOrder here) (free : (t : ℕ) → IsIn t from → covers here t ≡ false)
     (begun : from.from ≤ since) (is : arrival ≡ max to.from (since + 1)) where
   -- an exchange at the earliest move bars each later one

@@ -20,3 +20,4 @@ pub mod Counted
 pub mod Entering
 pub mod Growing
 pub mod Fresh
+pub mod Nearby

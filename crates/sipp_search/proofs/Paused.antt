@@ -4,7 +4,7 @@ use Rattle.std.proofs.lemmas.List.{length-set}
 use Rattle.std.proofs.lemmas.Bool.{cases_lt, false≢true}
 use Rattle.std.specs.Bool.{OnTrue}
 use Rattle.std.proofs.lemmas.Option.{same_Some}
-use Rattle.std.specs.Prelude.{Bool, true, not, ◌≡◌, ℕ, ◌+◌, ◌*◌, ◌<◌, ◌≤◌, ◌⊎◌, false, List, Option, Some, None, IsSome, IfSome, IfNone, length, slice_get}
+use Rattle.std.specs.Prelude.{Bool, true, not, ◌≡◌, ℕ, ◌+◌, ◌*◌, ◌<◌, ◌≤◌, ◌⊎◌, false, List, Option, Some, None, is_some, IsSome, IfSome, IfNone, length, slice_get}
 use Rattle.fleet_base.specs.declared.grid.Cell.{Cell}
 use Rattle.fleet_base.specs.declared.grid.Side.{Side}
 use Rattle.fleet_base.specs.declared.request.Record.{Record}
@@ -50,6 +50,11 @@ pub on_true : (b : Bool) (P : Type 0) → (b ≡ true → P) → OnTrue b P
 on_true true P follows = follows refl
 on_true false P follows = tt
 
+-- what holds of a value, where there is one
+pub some_holds : {X : Type 0} (o : Option X) (P : X → Type 0) → true ≡ is_some o → IfSome o P → (x : X) × P x
+some_holds (Some x) P is holds = (x, holds)
+some_holds None P is holds = absurd (false≢true (sym is))
+
 -- The moves from the start.
 module _ (g : Terrain) (q : Request) (a : Assignment) where
   pub way_from_start : {c : Cell} {t : ℕ} → IsReached g q a c t → (k : ℕ) × IsWay g q.start c k × (q.depart + k ≤ t)
@@ -64,7 +69,7 @@ module _ (g : Terrain) (q : Request) (a : Assignment) where
       ]
 
 -- a cell that is reached with a final arrival was seen
-seen_of : (states : List State) (c : Cell) (t : ℕ) → HasFinal states c t → HasSeen states c t
+pub seen_of : (states : List State) (c : Cell) (t : ℕ) → HasFinal states c t → HasSeen states c t
 seen_of states c t has = record {
   place = has.place;
   spot = has.spot;
@@ -123,7 +128,7 @@ module _ (states : List State) (c : Cell) (t j : ℕ) (s : State) (at : slice_ge
   seen_none (Some r) newest not_queued not_final = tt
   seen_none None newest not_queued not_final = λ g q horizon known arena seen. late_here g q horizon known newest arena not_queued not_final seen
 
-near_by : (g : Terrain) (goal c : Cell) (left : ℕ) → IsDistance g goal c left → IsWithin g goal c left
+pub near_by : (g : Terrain) (goal c : Cell) (left : ℕ) → IsDistance g goal c left → IsWithin g goal c left
 near_by g goal c left distance = record { left = left; way = distance.way; below = omega arith }
 
 -- All states whose keys are below the cursor are final.
@@ -132,7 +137,7 @@ module _ (g : Terrain) (q : Request) (horizon : ℕ) (a : Assignment) (bound : I
   spot_at : (i : ℕ) (s : State) → slice_get states i ≡ Some s → slice_get (spots_of states) i ≡ Some s.spot
   spot_at i s at = stands_map (λ (z : State). z.spot) states i s at
 
-  leads : EachLeads g q horizon a states
+  pub leads : EachLeads g q horizon a states
   leads = lead_each g q horizon a states cursor way
 
   pub final_below : (c : Cell) (t k : ℕ) → IsReached g q a c t → IsWithin g q.goal c k → t + k < cursor → HasFinal states c t
@@ -267,7 +272,7 @@ paused_counted g q horizon known size old new paused sound states queue = record
 -- The same facts of an arena, for an assignment that has the known calendars.
 module _ (g : Terrain) (q : Request) (horizon : ℕ) (known : ℕ → Option (List Record)) (size : ℕ) (arena : Arena) (bound : IsBound g q.goal)
     (paused : IsPaused g q horizon known size arena) (a : Assignment) (agrees : Agrees a known) where
-  spots : AreSpots g q horizon a (spots_of arena.states.items)
+  pub spots : AreSpots g q horizon a (spots_of arena.states.items)
   spots = spots_right g q.goal horizon known (spots_of arena.states.items) arena.newest q a refl paused.sound.arranged agrees
 
   way : (x : ℕ) → IsUnderWay g q horizon a arena.states.items arena.queue.floor x
@@ -285,6 +290,11 @@ module _ (g : Terrain) (q : Request) (horizon : ℕ) (known : ℕ → Option (Li
   pub paused_entered : (c n : Cell) (u s left : ℕ) → IsUnseenAt g q arena.states.items arena.queue.floor c u left → IsStepBack g q a c u n s → IsEarliest g (traffic_by a) q c u u
   paused_entered c n u s left unseen back =
       earliest_entered g q horizon a bound arena.states.items arena.queue.floor spots way paused.in_time c n u back.before left back.first.side unseen back.time_is back.first.beside back.first.precedes
+
+  -- a state's cell is free while its interval holds the time
+  pub paused_free : (i : ℕ) (s : State) (c : Cell) (u : ℕ) → slice_get arena.states.items i ≡ Some s → s.spot.cell ≡ c → IsIn u s.spot.interval → covers (a c.0) u ≡ false
+  paused_free i s c u at cell inside =
+      subst (λ (z : Cell). covers (a z.0) u ≡ false) cell ((spots.safe i s.spot (stands_map (λ (z : State). z.spot) arena.states.items i s at)).free u inside)
 
   pub paused_goal : IsEarliest g (traffic_by a) q q.goal arena.queue.floor arena.queue.floor
   paused_goal =

@@ -1,5 +1,5 @@
 -- What reading back tells while some states of the last key aren't settled.
-use Rattle.std.specs.Prelude.{◌≡◌, ℕ, ◌+◌, ◌*◌, ◌<◌, ◌≤◌, List, Option, Some, IsSome, length, slice_get, ⊤}
+use Rattle.std.specs.Prelude.{◌≡◌, ℕ, ◌+◌, ◌*◌, ◌<◌, ◌≤◌, true, List, Option, Some, IsSome, length, slice_get, ⊤}
 use Rattle.fleet_base.specs.declared.grid.Cell.{Cell}
 use Rattle.fleet_base.specs.declared.grid.Side.{Side}
 use Rattle.fleet_base.specs.declared.request.Record.{Record}
@@ -9,13 +9,17 @@ use Rattle.fleet_base.specs.Reach.{Reached, IsArrival}
 use Rattle.fleet_base.specs.Canonical.{CanPrecede, IsFirstBefore, IsEarliest}
 use Rattle.calendars.specs.Assignments.{Assignment, Agrees, traffic_by}
 use Rattle.static_distance.specs.Aim.{room, IsAimed}
-use Rattle.static_distance.specs.Levels.{IsPlaceOf}
+use Rattle.static_distance.specs.Levels.{IsPlaceOf, between}
+use Rattle.static_distance.specs.declared.place.Place.{Place}
 use Rattle.sipp_search.specs.declared.states.Arena.{Arena}
 use Rattle.sipp_search.specs.declared.ties.Ties.{Ties}
+use Rattle.sipp_search.specs.declared.ties.Waiting.{Waiting}
 use Rattle.sipp_search.specs.declared.ties.Told.{Told}
 use Rattle.sipp_search.specs.declared.ties.Told.TheVariants.{Since, Never, Unclear}
 use Rattle.static_distance.specs.Distance.{IsDistance}
 use Rattle.sipp_search.specs.declared.states.State.{State}
+use Rattle.sipp_search.specs.declared.states.Spot.{Spot}
+use Rattle.sipp_search.specs.Marks.{queued}
 use Rattle.sipp_search.specs.Progress.{IsUnderWay, HasSeen}
 use Rattle.sipp_search.specs.Running.{IsSound}
 use Rattle.sipp_search.specs.Back.{IsOn, NoneFrom}
@@ -96,3 +100,33 @@ abbrev pub EarlierThan : ℕ → Told → Type 0
 EarlierThan t (Since hop) = hop.time + 1 ≤ t
 EarlierThan t Never = ⊤
 EarlierThan t Unclear = ⊤
+
+-- so many moves lead from its place, since its arrival, to that place by t, if all cells are open
+abbrev pub IsNear : Waiting → Place → ℕ → Type 0
+IsNear one place t = one.arrival + between one.place place ≤ t
+
+-- one of the list is that near
+abbrev pub HasNear : List Waiting → Place → ℕ → Type 0
+HasNear waiting place t = (j : ℕ) × (one : Waiting) × (slice_get waiting j ≡ Some one) × IsNear one place t
+
+-- the places of the list are those of a grid
+abbrev pub AreInGrid : List Waiting → Type 0
+AreInGrid waiting = (j : ℕ) (one : Waiting) → slice_get waiting j ≡ Some one → (one.place.column < 2048) × (one.place.row < 2048)
+
+-- the list has the cell's place with that arrival
+abbrev pub IsListed : Terrain → List Waiting → Cell → ℕ → Type 0
+IsListed g waiting c r = (j : ℕ) × (one : Waiting) × (slice_get waiting j ≡ Some one) × IsPlaceOf g c one.place × (one.arrival ≡ r)
+
+-- each queued state whose key is the floor is in the list
+pub record AreWaiting (g : Terrain) (states : List State) (floor : ℕ) (waiting : List Waiting) : Type 0 where
+  pub in_grid : AreInGrid waiting
+  pub listed : (i r : ℕ) (p : Spot) → slice_get states i ≡ Some (queued p r) → r + p.left ≡ floor → IsListed g waiting p.cell r
+
+-- where the list is said to have all of them, it has
+abbrev pub ListsWaiting : Terrain → List State → ℕ → Ties → Type 0
+ListsWaiting g states floor ties = ties.few ≡ true → AreWaiting g states floor ties.waiting.items
+
+-- nothing else is in the list
+abbrev pub AreQueued : Terrain → List State → ℕ → List Waiting → Type 0
+AreQueued g states floor waiting = (j : ℕ) (one : Waiting) → slice_get waiting j ≡ Some one
+    → (i : ℕ) × (p : Spot) × (slice_get states i ≡ Some (queued p one.arrival)) × (one.arrival + p.left ≡ floor) × IsPlaceOf g p.cell one.place

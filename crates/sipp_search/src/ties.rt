@@ -1,9 +1,9 @@
-ghost use Rattle.std.specs.Prelude.{◌≡◌, ℕ, suc, ◌+◌, ◌<◌, ◌≤◌, ◌⊎◌, false, List, Option, Some, None, IsSome, OnOk, IfOk, IfSome, IfNone, length, slice_get};
+ghost use Rattle.std.specs.Prelude.{◌≡◌, ◌≢◌, ℕ, suc, ◌+◌, ◌-◌, ◌<◌, ◌≤◌, ◌⊎◌, false, List, Option, Some, None, IsSome, OnOk, IfOk, IfSome, IfNone, length, slice_get};
 ghost use Rattle.std.specs.Bool.{OnTrue, OnFalse};
 ghost use Rattle.fleet_base.specs.declared.request.Record.{Record};
 ghost use Rattle.fleet_base.specs.Canonical.{ReadsBack};
 ghost use Rattle.fleet_base.specs.Reach.{Reached};
-ghost use Rattle.calendars.specs.Records.{covers};
+ghost use Rattle.calendars.specs.Records.{covers, is_exchange};
 ghost use Rattle.calendars.specs.Assignments.{Assignment, Agrees, traffic_by};
 ghost use Rattle.sipp_search.specs.Marks.{final_count, final, queued, spots_of};
 ghost use Rattle.sipp_search.specs.Arena.{IsArena, AreChained};
@@ -12,8 +12,8 @@ ghost use Rattle.static_distance.specs.Levels.{IsPlaceOf};
 ghost use Rattle.fleet_base.specs.Terrain.{Terrain};
 ghost use Rattle.fleet_base.specs.declared.grid.Cell.{Cell as ACell};
 ghost use Rattle.fleet_base.specs.declared.request.Request.{Request};
-ghost use Rattle.sipp_search.specs.Running.{IsReady, Serves, KeepsKnown};
-ghost use Rattle.sipp_search.specs.Ties.{IsPaused, HaveRoom, AreTies, TellsArrival, TellsSide, TellsStep, IsUnseenAt, LoadedWhereSince, EarlierThan, IsFirstArrival};
+ghost use Rattle.sipp_search.specs.Running.{IsReady, IsSound, Serves, KeepsKnown};
+ghost use Rattle.sipp_search.specs.Ties.{IsPaused, HaveRoom, AreTies, TellsArrival, TellsSide, TellsStep, IsUnseenAt, LoadedWhereSince, EarlierThan, IsFirstArrival, IsNear, HasNear, AreInGrid, AreWaiting, ListsWaiting, AreQueued};
 
 use crate::back::{Hop, push_hop};
 use crate::chain::{place_at, way_left};
@@ -33,15 +33,28 @@ const DEPTH: u32 = 1000;
 // that many searches never come to.
 const EASY: u32 = 1000;
 
+// The queued states of the last key are listed where they are at most so many: going through a longer list takes longer than
+// it saves.
+const SHORT: usize = 16;
+
+// Where a queued state of the last key is, and since when.
+#[derive(Clone, Copy)]
+pub struct Waiting {
+    pub place: Place,
+    pub arrival: u32,
+}
+
 // What reading back keeps of earlier questions: where the start is and the moves from it, by the cell's number what was told
-// of the cell (twice the time and 1 where it isn't reached then, and 2 where it is reached then first), and how many states
-// were looked into without counting moves.
+// of the cell (twice the time and 1 where it isn't reached then, and 2 where it is reached then first), how many states
+// were looked into without counting moves, queued states of the last key, and whether these are all of them.
 #[derive(Drop)]
 pub struct Ties {
     pub start: Place,
     pub from_start: Distances,
     pub asked: StampedList,
     pub looked: u32,
+    pub waiting: Vec<Waiting>,
+    pub few: bool,
 }
 
 // What is told of a cell at a time: since when it is reached, that it never is, or that it wasn't found out.
@@ -61,17 +74,59 @@ pub fn new_ties(alloc: Global, cells: usize) -> Result<Ties, Memory>
         from_start: Distances::new(alloc, cells)?,
         asked: StampedList::new(alloc, cells)?,
         looked: 0,
+        waiting: Vec::new(alloc),
+        few: false,
     })
 }
 
-// Forgets earlier questions, and counts moves from the start.
-fn forget(task: &Task, ties: &mut Ties) -> Result<(), Memory>
+// The arrival of a queued state, where its key is that one.
+fn arrival_with(state: State, key: usize) -> Option<u32>
+    ensures some { IfSome result (λ r. (state ≡ queued state.spot r) × (r + state.spot.left ≡ key)) }
+    ensures none { IfNone result ((r : ℕ) → state ≡ queued state.spot r → r + state.spot.left ≢ key) }
+{
+    let Mark::Queued(arrival) = state.mark else {
+        return None;
+    };
+    if arrival as usize + state.spot.left as usize != key {
+        return None;
+    }
+    Some(arrival)
+}
+
+// Lists the queued states whose key is the floor, the newest first. Whether the list has all of them: it ends where it would
+// get long.
+fn list_waiting(task: &Task, arena: &Arena, waiting: &mut Vec<Waiting>) -> Result<bool, Memory>
+    requires sound { (known : ℕ → Option (List Record)) × (size : ℕ) × IsSound task.now.grid.now task.now.request task.now.horizon known size arena.now }
+    ensures all { IfOk result (λ few. OnTrue few (AreWaiting task.now.grid.now arena.now.states.items arena.now.queue.floor waiting.new.items)) }
+    ensures only { OnOk result (AreQueued task.now.grid.now arena.now.states.items arena.now.queue.floor waiting.new.items) }
+{
+    waiting.clear();
+    let floor = arena.queue.floor();
+    let count = arena.states.len();
+    for back in 0..count {
+        let state = arena.states[count - 1 - back];
+        if let Some(arrival) = arrival_with(state, floor) {
+            if waiting.len() == SHORT {
+                return Ok(false);
+            }
+            let place = place_of(task.grid, state.spot.cell);
+            waiting.push(Waiting { place, arrival })?;
+        }
+    }
+    Ok(true)
+}
+
+// Forgets earlier questions, lists who waits, and counts moves from the start.
+fn forget(task: &Task, arena: &Arena, ties: &mut Ties) -> Result<(), Memory>
+    requires sound { (known : ℕ → Option (List Record)) × (size : ℕ) × IsSound task.now.grid.now task.now.request task.now.horizon known size arena.now }
     requires fit { HaveRoom (length task.now.grid.now.cells) ties.old }
     requires start { task.now.request.start.0 < length task.now.grid.now.cells }
     requires goal { task.now.request.goal.0 < length task.now.grid.now.cells }
     ensures fit { HaveRoom (length task.now.grid.now.cells) ties.new }
     ensures ties { OnOk result ((known : ℕ → Option (List Record)) → AreTies task.now.grid.now task.now.request known ties.new) }
+    ensures waiting { OnOk result (ListsWaiting task.now.grid.now arena.now.states.items arena.now.queue.floor ties.new) }
 {
+    ties.few = list_waiting(task, arena, &mut ties.waiting)?;
     ties.asked.clear();
     ties.looked = 0;
     ties.start = place_of(task.grid, task.request.start);
@@ -93,6 +148,35 @@ fn is_far_apart(task: &Task, ties: &Ties, place: Place, time: u32) -> bool
     since < moves_between(place, ties.start)
 }
 
+fn is_near(one: Waiting, place: Place, time: u32) -> bool
+    requires from { (one.place.column < 2048) × (one.place.row < 2048) }
+    requires to { (place.column < 2048) × (place.row < 2048) }
+    ensures yes { OnTrue result (IsNear one place time) }
+    ensures no { OnFalse result (IsNear one place time → ⊥) }
+{
+    let Some(since) = time.checked_sub(one.arrival) else {
+        return false;
+    };
+    moves_between(one.place, place) <= since
+}
+
+// Whether a queued state of the last key is near enough to the place for its cell to be reached from there by that time, also
+// if all cells were open. Where none is, and the list has them all, a cell that no move was seen to reach isn't reached.
+fn is_near_waiting(task: &Task, ties: &Ties, place: Place, time: u32) -> bool
+    requires place { (c : ACell) × (c.0 < length task.now.grid.now.cells) × IsPlaceOf task.now.grid.now c place }
+    requires in_grid { AreInGrid ties.now.waiting.items }
+    ensures some { OnTrue result (HasNear ties.now.waiting.items place time) }
+    ensures none { OnFalse result (HasNear ties.now.waiting.items place time → ⊥) }
+{
+    let _limits = task.grid.cells();
+    for one in &ties.waiting {
+        if is_near(*one, place, time) {
+            return true;
+        }
+    }
+    false
+}
+
 // The same over the cells that are open. Moves are counted once many cells were looked into.
 fn is_too_far(task: &Task, ties: &mut Ties, cell: Cell, time: u32) -> Result<bool, Memory>
     requires cell { cell.0 < length task.now.grid.now.cells }
@@ -101,6 +185,8 @@ fn is_too_far(task: &Task, ties: &mut Ties, cell: Cell, time: u32) -> Result<boo
     ensures fit { HaveRoom (length task.now.grid.now.cells) ties.new }
     ensures ties { OnOk result ((known : ℕ → Option (List Record)) → AreTies task.now.grid.now task.now.request known ties.old → AreTies task.now.grid.now task.now.request known ties.new) }
     ensures asked { OnOk result (ties.new.asked ≡ ties.old.asked) }
+    ensures waiting { ties.new.waiting ≡ ties.old.waiting }
+    ensures few { ties.new.few ≡ ties.old.few }
     ensures far { IfOk result (λ far. OnTrue far ((a : Assignment) → Reached task.now.grid.now (traffic_by a) task.now.request.start task.now.request.depart cell time → ⊥)) }
 {
     let Some(since) = time.checked_sub(task.request.depart) else {
@@ -183,6 +269,7 @@ fn arrival_at<V: CalendarView>(
     requires ready { IsReady task.now.grid.now task.now.request task.now.horizon (V.size view.old) }
     requires paused { IsPaused task.now.grid.now task.now.request task.now.horizon (V.known view.old) (V.size view.old) arena.old }
     requires ties { AreTies task.now.grid.now task.now.request (V.known view.old) ties.old }
+    requires waiting { ListsWaiting task.now.grid.now arena.old.states.items arena.old.queue.floor ties.old }
     requires cell { cell.0 < V.size view.old }
     requires place { IsPlaceOf task.now.grid.now cell place }
     requires time { time ≤ task.now.horizon }
@@ -193,6 +280,7 @@ fn arrival_at<V: CalendarView>(
     ensures fit { HaveRoom (length task.now.grid.now.cells) ties.new }
     ensures paused { OnOk result (IsPaused task.now.grid.now task.now.request task.now.horizon (V.known view.new) (V.size view.new) arena.new) }
     ensures ties { OnOk result (AreTies task.now.grid.now task.now.request (V.known view.new) ties.new) }
+    ensures waiting { OnOk result (ListsWaiting task.now.grid.now arena.new.states.items arena.new.queue.floor ties.new) }
     ensures floor { OnOk result (arena.new.queue.floor ≡ arena.old.queue.floor) }
     ensures count { OnOk result (final_count arena.new.states.items ≡ final_count arena.old.states.items) }
     ensures loaded { IfOk result (LoadedWhereSince (V.known view.new)) }
@@ -237,6 +325,7 @@ fn ask<V: CalendarView>(
     requires ready { IsReady task.now.grid.now task.now.request task.now.horizon (V.size view.old) }
     requires paused { IsPaused task.now.grid.now task.now.request task.now.horizon (V.known view.old) (V.size view.old) arena.old }
     requires ties { AreTies task.now.grid.now task.now.request (V.known view.old) ties.old }
+    requires waiting { ListsWaiting task.now.grid.now arena.old.states.items arena.old.queue.floor ties.old }
     requires cell { cell.0 < V.size view.old }
     requires place { IsPlaceOf task.now.grid.now cell place }
     requires time { time ≤ task.now.horizon }
@@ -248,6 +337,7 @@ fn ask<V: CalendarView>(
     ensures fit { HaveRoom (length task.now.grid.now.cells) ties.new }
     ensures paused { OnOk result (IsPaused task.now.grid.now task.now.request task.now.horizon (V.known view.new) (V.size view.new) arena.new) }
     ensures ties { OnOk result (AreTies task.now.grid.now task.now.request (V.known view.new) ties.new) }
+    ensures waiting { OnOk result (ListsWaiting task.now.grid.now arena.new.states.items arena.new.queue.floor ties.new) }
     ensures floor { OnOk result (arena.new.queue.floor ≡ arena.old.queue.floor) }
     ensures count { OnOk result (final_count arena.new.states.items ≡ final_count arena.old.states.items) }
     ensures loaded { IfOk result (LoadedWhereSince (V.known view.new)) }
@@ -262,6 +352,9 @@ fn ask<V: CalendarView>(
         return Ok(Told::Since(Hop { cell, time }));
     }
     if is_far_apart(task, &*ties, place, time) {
+        return Ok(Told::Never);
+    }
+    if ties.few && !is_near_waiting(task, &*ties, place, time) {
         return Ok(Told::Never);
     }
     let taken = is_taken(task, view, &*arena, &*ties, cell, time)?;
@@ -288,6 +381,32 @@ fn ask<V: CalendarView>(
     }
 }
 
+// Whether the move from the one cell to the other that arrives at that time is an exchange. Who takes part in one stands then in
+// the cell that is left, so none is where a state of that cell holds the time.
+fn is_barred_from<V: CalendarView>(
+    task: &Task,
+    view: &V,
+    arena: &Arena,
+    from: Cell,
+    to: Cell,
+    entered: u32,
+) -> bool
+    requires ready { IsReady task.now.grid.now task.now.request task.now.horizon (V.size view.now) }
+    requires paused { IsPaused task.now.grid.now task.now.request task.now.horizon (V.known view.now) (V.size view.now) arena.now }
+    requires from { IsSome (V.known view.now from.0) }
+    requires to { IsSome (V.known view.now to.0) }
+    requires later { 0 < entered }
+    requires time { entered ≤ task.now.horizon }
+    ensures barred { (a : Assignment) → Agrees a (V.known view.now) → is_exchange (a from.0) (a to.0) (entered - 1) ≡ result }
+{
+    let here = view.calendar(from);
+    let _in_order = here.records();
+    if place_at(arena, from, entered).is_some() {
+        return false;
+    }
+    crossing(here, view.calendar(to), entered - 1)
+}
+
 // Where the agent came from on that side, if the cell that is entered at that time can be reached from there.
 #[cycle(arriving)]
 fn side_back<V: CalendarView>(
@@ -304,6 +423,7 @@ fn side_back<V: CalendarView>(
     requires ready { IsReady task.now.grid.now task.now.request task.now.horizon (V.size view.old) }
     requires paused { IsPaused task.now.grid.now task.now.request task.now.horizon (V.known view.old) (V.size view.old) arena.old }
     requires ties { AreTies task.now.grid.now task.now.request (V.known view.old) ties.old }
+    requires waiting { ListsWaiting task.now.grid.now arena.old.states.items arena.old.queue.floor ties.old }
     requires known { IsSome (V.known view.old at.0) }
     requires place { IsPlaceOf task.now.grid.now at place }
     requires cell { at.0 < V.size view.old }
@@ -316,6 +436,7 @@ fn side_back<V: CalendarView>(
     ensures fit { HaveRoom (length task.now.grid.now.cells) ties.new }
     ensures paused { OnOk result (IsPaused task.now.grid.now task.now.request task.now.horizon (V.known view.new) (V.size view.new) arena.new) }
     ensures ties { OnOk result (AreTies task.now.grid.now task.now.request (V.known view.new) ties.new) }
+    ensures waiting { OnOk result (ListsWaiting task.now.grid.now arena.new.states.items arena.new.queue.floor ties.new) }
     ensures floor { OnOk result (arena.new.queue.floor ≡ arena.old.queue.floor) }
     ensures count { OnOk result (final_count arena.new.states.items ≡ final_count arena.old.states.items) }
     ensures loaded { IfOk result (LoadedWhereSince (V.known view.new)) }
@@ -338,7 +459,7 @@ fn side_back<V: CalendarView>(
         Told::Never => return Ok(Told::Never),
         Told::Unclear => return Ok(Told::Unclear),
     };
-    if crossing(view.calendar(hop.cell), view.calendar(at), entered - 1) {
+    if is_barred_from(task, &*view, &*arena, hop.cell, at, entered) {
         return Ok(Told::Never);
     }
     Ok(Told::Since(hop))
@@ -359,6 +480,7 @@ fn step_back<V: CalendarView>(
     requires ready { IsReady task.now.grid.now task.now.request task.now.horizon (V.size view.old) }
     requires paused { IsPaused task.now.grid.now task.now.request task.now.horizon (V.known view.old) (V.size view.old) arena.old }
     requires ties { AreTies task.now.grid.now task.now.request (V.known view.old) ties.old }
+    requires waiting { ListsWaiting task.now.grid.now arena.old.states.items arena.old.queue.floor ties.old }
     requires known { IsSome (V.known view.old at.0) }
     requires cell { at.0 < V.size view.old }
     requires place { IsPlaceOf task.now.grid.now at place }
@@ -371,6 +493,7 @@ fn step_back<V: CalendarView>(
     ensures fit { HaveRoom (length task.now.grid.now.cells) ties.new }
     ensures paused { OnOk result (IsPaused task.now.grid.now task.now.request task.now.horizon (V.known view.new) (V.size view.new) arena.new) }
     ensures ties { OnOk result (AreTies task.now.grid.now task.now.request (V.known view.new) ties.new) }
+    ensures waiting { OnOk result (ListsWaiting task.now.grid.now arena.new.states.items arena.new.queue.floor ties.new) }
     ensures floor { OnOk result (arena.new.queue.floor ≡ arena.old.queue.floor) }
     ensures count { OnOk result (final_count arena.new.states.items ≡ final_count arena.old.states.items) }
     ensures loaded { IfOk result (LoadedWhereSince (V.known view.new)) }
@@ -414,7 +537,7 @@ pub fn read_ties<V: CalendarView>(
     ensures count { OnOk result (final_count arena.new.states.items ≡ final_count arena.old.states.items) }
     ensures cells_back { IfOk result (λ o. IfSome o (λ v. (a : Assignment) → Agrees a (V.known view.new) → ReadsBack task.now.grid.now (traffic_by a) task.now.request task.now.request.goal arrival v.items)) }
 {
-    forget(task, ties)?;
+    forget(task, &*arena, ties)?;
     let mut cells = Vec::new(alloc);
     let mut at = task.request.goal;
     let mut time = arrival;

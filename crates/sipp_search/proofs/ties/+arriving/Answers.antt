@@ -13,6 +13,7 @@ use Rattle.sipp_search.specs.Ties.{IsUnseenAt}
 use Rattle.sipp_search.proofs.Moves.{IsReached, reached_free, reached_open, beside_differs}
 use Rattle.sipp_search.proofs.Moving.{kept_twice, agrees_before, same_side, rank_low}
 use Rattle.sipp_search.proofs.Paused.{paused_counted, paused_seen, paused_below, paused_beside, paused_entered, seen_loaded, some_kept, ready_kept, ties_missed, ties_entered, side_found}
+use Rattle.sipp_search.proofs.Nearby.{paused_far, waiting_counted, waiting_kept}
 use Rattle.sipp_search.proofs.ties.+arriving.Goals as goal
 
 pub arrival_at-returns-in_default-clause-paused : goal.arrival_at-returns-in_default-clause-paused
@@ -74,11 +75,23 @@ arrival_at-ask-requires g t c κs within =
           c.requires.ready,
           (
             paused_counted c.args.task.now.grid.now c.args.task.now.request c.args.task.now.horizon (g.V.CalendarView.known c.args.view.now) (g.V.CalendarView.size c.args.view.now) c.args.arena.now c.way_left.new.arena c.requires.paused c.in_ok-left.ensures.sound c.in_ok-left.ensures.states c.in_ok-left.ensures.queue,
-            (c.requires.ties, (c.requires.cell, (c.requires.place, (c.requires.time, unseen)))),
+            (
+              c.requires.ties,
+              (
+                waiting_counted c.args.task.now.grid.now c.args.arena.now c.way_left.new.arena c.args.ties.now c.requires.waiting c.in_ok-left.ensures.states c.in_ok-left.ensures.queue,
+                (c.requires.cell, (c.requires.place, (c.requires.time, unseen))),
+              ),
+            ),
           ),
         ),
       ),
     ))
+
+pub ask-returns-then-not-is_near_waiting-clause-told : goal.ask-returns-then-not-is_near_waiting-clause-told
+ask-returns-then-not-is_near_waiting-clause-told g t c =
+    λ a agrees reached.
+    paused_far c.args.task.now.grid.now c.args.task.now.request c.args.task.now.horizon (g.V.CalendarView.known c.args.view.now) (g.V.CalendarView.size c.args.view.now) c.args.arena.now c.requires.ready.bound c.requires.paused a agrees
+    c.args.ties.now.waiting.items c.args.cell c.args.place c.args.time c.args.left (c.requires.waiting c.if-ties.true) c.requires.place c.requires.unseen c.if-not-is_near_waiting.ensures.none reached
 
 pub ask-returns-then-taken-clause-told : goal.ask-returns-then-taken-clause-told
 ask-returns-then-taken-clause-told g t c =
@@ -104,10 +117,13 @@ ask-step_back-requires g t c κs within = (
         (
           c.in_ok-is_too_far.ensures.ties (g.V.CalendarView.known c.is_taken.new.view) c.in_ok-taken.ensures.ties,
           (
-            c.in_ok-taken.ensures.loaded,
+            waiting_kept c.args.task.now.grid.now c.args.arena.now.states.items c.args.arena.now.queue.floor c.args.ties.now c.is_too_far.new.ties c.requires.waiting c.in_ok-is_too_far.ensures.waiting c.in_ok-is_too_far.ensures.few,
             (
-              omega (arith, c.requires.cell, c.in_ok-taken.ensures.cells),
-              (c.requires.place, (c.requires.time, (λ a agrees. c.in_ok-taken.ensures.taken a agrees ∙ c.if-taken.false))),
+              c.in_ok-taken.ensures.loaded,
+              (
+                omega (arith, c.requires.cell, c.in_ok-taken.ensures.cells),
+                (c.requires.place, (c.requires.time, (λ a agrees. c.in_ok-taken.ensures.taken a agrees ∙ c.if-taken.false))),
+              ),
             ),
           ),
         ),
@@ -164,13 +180,15 @@ side_back-returns-then-not-is_open-clause-told g t c =
     let opened = reached_open c.args.task.now.grid.now c.args.task.now.request a (subst (λ (z : Cell). IsReached c.args.task.now.grid.now c.args.task.now.request a z u) same reached) in
     false≢true (c.if-not-is_open.ensures.1 opened))
 
-pub side_back-returns-then-crossing-clause-told : goal.side_back-returns-then-crossing-clause-told
-side_back-returns-then-crossing-clause-told g t c =
+pub side_back-is_barred_from-requires-clause-to : goal.side_back-is_barred_from-requires-clause-to
+side_back-is_barred_from-requires-clause-to g t c =
+    some_kept (g.V.CalendarView.known c.args.view.now) (g.V.CalendarView.known c.arrival_at.new.view) c.args.at.0 c.in_ok-told.ensures.kept c.requires.known
+
+pub side_back-returns-then-is_barred_from-clause-told : goal.side_back-returns-then-is_barred_from-clause-told
+side_back-returns-then-is_barred_from-clause-told g t c =
     λ a agrees n u beside time can.
     (let told = rw c.in-Since.is at (c.in_ok-told.ensures.told a agrees) in
-    let here : a c.in-Since.hop.cell.0 ≡ c.calendar.result.now = agrees c.in-Since.hop.cell.0 c.calendar.result.now c.calendar.ensures in
-    let there : a c.args.at.0 ≡ c.calendar-2.result.now = agrees c.args.at.0 c.calendar-2.result.now c.calendar-2.ensures in
-    let barred : is_exchange (a c.in-Since.hop.cell.0) (a c.args.at.0) (c.args.entered - 1) ≡ true = rw (here, there) (sym c.if-crossing.ensures) in
+    let barred : is_exchange (a c.in-Since.hop.cell.0) (a c.args.at.0) (c.args.entered - 1) ≡ true = c.if-is_barred_from.ensures.barred a agrees in
     let same : n ≡ c.in-Some.cell = beside_once c.args.task.now.grid.now c.args.side c.args.at n c.in-Some.cell beside c.in-Some.ensures.beside in
     let before : u ≡ c.args.entered - 1 = omega arith in
     let differ : n ≡ c.args.at → ⊥ = λ e. beside_differs c.args.task.now.grid.now c.args.side c.args.at n beside (sym e) in
@@ -184,9 +202,7 @@ pub side_back-returns-clause-told : goal.side_back-returns-clause-told
 side_back-returns-clause-told g t c =
     λ a agrees.
     (let told = rw c.in-Since.is at (c.in_ok-told.ensures.told a agrees) in
-    let here : a c.in-Since.hop.cell.0 ≡ c.calendar.result.now = agrees c.in-Since.hop.cell.0 c.calendar.result.now c.calendar.ensures in
-    let there : a c.args.at.0 ≡ c.calendar-2.result.now = agrees c.args.at.0 c.calendar-2.result.now c.calendar-2.ensures in
-    let unbarred : is_exchange (a c.in-Since.hop.cell.0) (a c.args.at.0) (c.args.entered - 1) ≡ false = rw (here, there) (sym c.if-crossing.ensures) in
+    let unbarred : is_exchange (a c.in-Since.hop.cell.0) (a c.args.at.0) (c.args.entered - 1) ≡ false = c.if-is_barred_from.ensures.barred a agrees in
     let beside : IsBeside c.args.task.now.grid.now c.args.side c.args.at c.in-Since.hop.cell = subst (λ (z : Cell). IsBeside c.args.task.now.grid.now c.args.side c.args.at z) (sym told.0) c.in-Some.ensures.beside in
     let earliest : IsEarliest c.args.task.now.grid.now (traffic_by a) c.args.task.now.request c.in-Since.hop.cell (c.args.entered - 1) c.in-Since.hop.time =
     subst (λ (z : Cell). IsEarliest c.args.task.now.grid.now (traffic_by a) c.args.task.now.request z (c.args.entered - 1) c.in-Since.hop.time) (sym told.0) told.1 in
@@ -217,6 +233,7 @@ step_back-loop-rank-preserved g t c =
       kept = kept_twice _ _ _ c.loop-rank.invariant.kept c.in_ok-told.ensures.kept;
       paused = c.in_ok-told.ensures.paused;
       ties = c.in_ok-told.ensures.ties;
+      waiting = c.in_ok-told.ensures.waiting;
       floor = c.in_ok-told.ensures.floor ∙ c.loop-rank.invariant.floor;
       count = c.in_ok-told.ensures.count ∙ c.loop-rank.invariant.count;
       none = λ a agrees side low. elim (cases_lt (rank_of side) c.loop-rank.rank) [

@@ -5,7 +5,7 @@ use Rattle.calendars.specs.Assignments.{Assignment, Agrees}
 use Rattle.sipp_search.specs.Marks.{final_count}
 use Rattle.sipp_search.specs.Back.{NoneFrom}
 use Rattle.sipp_search.specs.Running.{KeepsKnown}
-use Rattle.sipp_search.specs.Ties.{IsPaused, AreTies}
+use Rattle.sipp_search.specs.Ties.{IsPaused, AreTies, ListsWaiting}
 use Rattle.sipp_search.proofs.ties.+arriving.Given as goal
 
 abbrev pub decreases-arrival_at : goal.decreases-arrival_at
@@ -27,6 +27,7 @@ invariant-step_back-loop-rank g l = record {
   kept : KeepsKnown (g.V.CalendarView.known l.initial.view) (g.V.CalendarView.known l.view);
   paused : IsPaused l.task.grid.now l.task.request l.task.horizon (g.V.CalendarView.known l.view) (g.V.CalendarView.size l.view) l.arena;
   ties : AreTies l.task.grid.now l.task.request (g.V.CalendarView.known l.view) l.ties;
+  waiting : ListsWaiting l.task.grid.now l.arena.states.items l.arena.queue.floor l.ties;
   floor : l.arena.queue.floor ≡ l.initial.arena.queue.floor;
   count : final_count l.arena.states.items ≡ final_count l.initial.arena.states.items;
   none : (a : Assignment) → Agrees a (g.V.CalendarView.known l.view) → (side : Side) → rank_of side < l.rank → NoneFrom l.task.grid.now l.task.request a l.at l.entered side;

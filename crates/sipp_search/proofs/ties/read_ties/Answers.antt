@@ -33,6 +33,7 @@ loop-told-init g c =
       kept = c.in_ok-told.ensures.kept;
       paused = c.in_ok-told.ensures.paused;
       ties = c.in_ok-told.ensures.ties;
+      waiting = c.in_ok-told.ensures.waiting;
       floor = c.in_ok-told.ensures.floor;
       count = c.in_ok-told.ensures.count;
       in_time = omega (arith, c.requires.paused.in_time, c.requires.arrival);
@@ -87,6 +88,7 @@ loop-told-preserved g c =
       kept = kept_twice _ _ _ c.loop-told.invariant.kept c.in_ok-told-2.ensures.kept;
       paused = c.in_ok-told-2.ensures.paused;
       ties = c.in_ok-told-2.ensures.ties;
+      waiting = c.in_ok-told-2.ensures.waiting;
       floor = c.in_ok-told-2.ensures.floor ∙ c.loop-told.invariant.floor;
       count = c.in_ok-told-2.ensures.count ∙ c.loop-told.invariant.count;
       in_time = (let early = rw c.in-Since.is at c.loop-told.invariant.early in omega (arith, early, c.loop-told.invariant.in_time));

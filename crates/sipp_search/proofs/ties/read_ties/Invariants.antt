@@ -5,7 +5,7 @@ use Rattle.calendars.specs.Assignments.{Assignment, Agrees, traffic_by}
 use Rattle.sipp_search.specs.Marks.{final_count}
 use Rattle.sipp_search.specs.Back.{ReadsOn}
 use Rattle.sipp_search.specs.Running.{KeepsKnown, Serves}
-use Rattle.sipp_search.specs.Ties.{IsPaused, HaveRoom, AreTies, TellsStep, LoadedWhereSince, EarlierThan}
+use Rattle.sipp_search.specs.Ties.{IsPaused, HaveRoom, AreTies, ListsWaiting, TellsStep, LoadedWhereSince, EarlierThan}
 use Rattle.sipp_search.proofs.ties.read_ties.Given as goal
 
 abbrev pub invariant-loop-told : goal.invariant-loop-told
@@ -15,6 +15,7 @@ invariant-loop-told g l = record {
   kept : KeepsKnown (g.V.CalendarView.known l.fn.view) (g.V.CalendarView.known l.view);
   paused : IsPaused l.task.grid.now l.task.request l.task.horizon (g.V.CalendarView.known l.view) (g.V.CalendarView.size l.view) l.arena;
   ties : AreTies l.task.grid.now l.task.request (g.V.CalendarView.known l.view) l.ties;
+  waiting : ListsWaiting l.task.grid.now l.arena.states.items l.arena.queue.floor l.ties;
   floor : l.arena.queue.floor ≡ l.fn.arena.queue.floor;
   count : final_count l.arena.states.items ≡ final_count l.fn.arena.states.items;
   in_time : l.time ≤ l.task.horizon;
