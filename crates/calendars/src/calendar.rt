@@ -52,6 +52,14 @@ impl Calendar {
         place_of(self.records.as_slice(), time)
     }
 
+    /// Room for so many records more, so that putting them in takes no memory. The records are as before.
+    pub fn reserve(&mut self, more: usize) -> Result<(), Memory>
+        ensures { self.new ≡ self.old }
+    {
+        self.records.reserve_exact(more)?;
+        Ok(())
+    }
+
     /// Puts a record in at its place. Where memory runs out nothing has changed.
     pub fn insert(&mut self, added: Record) -> Result<(), Memory>
         requires proper { added.from ≤ added.to }
@@ -87,13 +95,18 @@ fn place_of(records: &[Record], time: u32) -> usize
     records.partition_point(|r| r.from <= time)
 }
 
-// Room for one record more. Many calendars have a single record, and most others few.
+// Room for one record more: one, two, four, and from there a quarter more. Many calendars of a great grid have a single
+// record, and most others few.
 fn make_room(records: &mut Vec<Record>) -> Result<(), Memory>
     ensures { records.new.items ≡ records.old.items }
 {
     let count = records.len();
     if count == records.capacity() {
-        let more = if count == 0 { 1 } else { count / 4 + 3 };
+        let more = if count < 4 {
+            count.max(1)
+        } else {
+            count / 4 + 2
+        };
         records.reserve_exact(more)?;
     }
     Ok(())
