@@ -239,6 +239,15 @@ mod tests {
     }
 
     #[test]
+    fn room_changes_no_record(rt: HostRuntime) -> Result<(), Fail> {
+        let mut calendar = Calendar::new(rt.alloc());
+        calendar.insert(span(2, 3, FIRST))?;
+        calendar.reserve(5)?;
+        assert_eq!(rt; calendar.records(), [span(2, 3, FIRST)].as_slice());
+        Ok(())
+    }
+
+    #[test]
     fn every_record_of_an_id_is_taken_out(rt: HostRuntime) -> Result<(), Fail> {
         let mut calendar = Calendar::new(rt.alloc());
         calendar.insert(span(2, 3, FIRST))?;

@@ -1,7 +1,9 @@
 -- What a pool of calendars is after each change.
-use Rattle.std.proofs.Common.{◌≡◌, ℕ, ◌<◌, inl, inr, List, [], ◌∷◌, ◌++◌, length, replicate, refl, sym, ap, ◌∙◌, subst, arith, get_or, set, zero, suc}
+use Rattle.std.proofs.Common.{◌≡◌, ℕ, ◌<◌, inl, inr, List, [], ◌∷◌, ◌++◌, length, replicate, refl, sym, ap, ◌∙◌, subst, arith, get_or, set, zero, suc, Some, slice_get}
 use Rattle.std.proofs.lemmas.Bool.{cases_eq, cases_lt}
-use Rattle.std.proofs.lemmas.List.{length-set, length-map, map-set, same_lists, get_or-map, get_or-set_same, get_or-set_other, get_or_push, get_or_past, set-get_or}
+use Rattle.std.proofs.lemmas.List.{get_or_read, length-set, length-map, map-set, same_lists, get_or-map, get_or-set_same, get_or-set_other, get_or_push, get_or_past, set-get_or}
+use Rattle.std.specs.Option.{option_map}
+use Rattle.std.proofs.lemmas.Option.{slice_get-map, slice_get-get_or}
 use Rattle.fleet_base.specs.declared.request.Record.{Record}
 use Rattle.plain_book.specs.Kept.{records_at}
 use Rattle.plain_book.specs.Pool.{calendars_in, place_of, IsPool}
@@ -21,6 +23,17 @@ module _ (places : List ℕ) (pool : List (List Record)) (is : IsPool places poo
     | inl inside ↦ is.within c 0 inside
     | inr past ↦ (let first : place_of places c ≡ 0 = get_or_past places c 0 past in omega (arith, is.some))
   ]
+
+  -- what is read at the place of a cell is its calendar
+  pub calendar_at : (calendars : List (List Record)) (c n : ℕ) (r : List Record) → calendars_in pool places ≡ calendars → c < length calendars → place_of places c ≡ n → r ≡ get_or pool n r
+      → slice_get calendars c ≡ Some r
+  calendar_at calendars c n r are inside is_at at =
+      let here : c < length places = omega (arith, length-map places (records_at pool), ap length are) in
+      let there : n < length pool = omega (arith, is_at, in_pool c) in
+      ap (λ (cs : List (List Record)). slice_get cs c) (sym are)
+      ∙ (slice_get-map (records_at pool) places c
+      ∙ (ap (option_map (records_at pool)) (slice_get-get_or places c 0 here)
+      ∙ ap Some (ap (records_at pool) is_at ∙ sym (get_or_read pool n r there at []))))
 
   -- the calendar of a cell is that of its place
   read_at : (c : ℕ) → c < length places → records_at (calendars_in pool places) c ≡ records_at pool (place_of places c)

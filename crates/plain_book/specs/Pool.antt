@@ -1,5 +1,5 @@
 -- Calendars that stand in a pool: each cell has a place there.
-use Rattle.std.specs.Prelude.{◌≡◌, ℕ, ◌<◌, List, [], length, map, All, slice_index_or}
+use Rattle.std.specs.Prelude.{◌≡◌, ℕ, suc, ◌<◌, Bool, true, List, [], length, map, All, slice_index_or, slice_set}
 use Rattle.fleet_base.specs.declared.request.Record.{Record}
 use Rattle.plain_book.specs.Kept.{records_at}
 
@@ -17,3 +17,12 @@ pub record IsPool (places : List ℕ) (pool : List (List Record)) : Type 0 where
   pub some : 0 < length pool
   pub empty : records_at pool 0 ≡ []
   pub apart : (c d : ℕ) → 0 < place_of places c → place_of places c ≡ place_of places d → c ≡ d
+
+-- with few cells each has a place of its own, in the order of the cells
+abbrev pub AreInOrder : Bool → List ℕ → Type 0
+AreInOrder few places = few ≡ true → (c : ℕ) → c < length places → place_of places c ≡ suc c
+
+-- the cell has the next place of the pool, and all others what they had
+pub record GetsNext (c : ℕ) (old : List ℕ) (old_pool : List (List Record)) (new : List ℕ) (new_pool : List (List Record)) : Type 0 where
+  pub places : new ≡ slice_set old c (length old_pool)
+  pub more : length new_pool ≡ suc (length old_pool)

@@ -10,6 +10,6 @@ returns-clause-ok c =
     let pool = c.own_place.new.pool.items in
     let is = c.in_ok-place.ensures.pool in
     let own = c.in_ok-place.ensures.own in
-    changed_by places pool is c.args.self.now (with_record c.args.added) c.args.cell.0 c.in_ok-place.place c.index_mut.result.now c.insert.new.self
+    changed_by places pool is c.args.self.now (with_record c.args.added) c.args.cell.0 c.in_ok-place.place c.index_mut.result.now c.insert_in.new.calendar
     (c.in_ok-place.ensures.same ∙ c.self.view_is) c.requires.inside own.0 own.1
-    (get_or_read pool c.in_ok-place.place c.index_mut.result.now (omega (arith, own.0, in_pool places pool is c.args.cell.0)) c.index_mut.ensures.value []) c.in_ok-insert.ensures.ok
+    (get_or_read pool c.in_ok-place.place c.index_mut.result.now (omega (arith, own.0, in_pool places pool is c.args.cell.0)) c.index_mut.ensures.value []) c.in_ok-insert_in.ensures.ok
