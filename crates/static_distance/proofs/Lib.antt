@@ -3,6 +3,7 @@ pub mod Places
 pub mod SpreadLemmas
 pub mod FloodLemmas
 pub mod AimLemmas
+pub mod BesideLemmas
 pub mod TakeLemmas
 pub mod OrderLemmas
 pub mod SpanLemmas

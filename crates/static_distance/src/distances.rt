@@ -1,4 +1,4 @@
-ghost use Rattle.std.specs.Prelude.{◌≡◌, ◌≢◌, ℕ, ◌+◌, ◌*◌, ◌<◌, ◌≤◌, ◌↔◌, [], ◌∷◌, ◌++◌, length, Some, IfOk, OnOk, IfSome, IfNone, IsTrue, slice_get};
+ghost use Rattle.std.specs.Prelude.{◌≡◌, ◌≢◌, ℕ, ◌+◌, ◌*◌, ◌<◌, ◌≤◌, ◌↔◌, [], ◌∷◌, ◌++◌, length, min, Some, IfOk, OnOk, IfSome, IfNone, IsTrue, slice_get};
 ghost use Rattle.std.specs.Bool.{OnTrue, OnFalse};
 
 use crate::marking::Marks;
@@ -32,10 +32,12 @@ pub struct Distances {
 }
 
 impl Distances {
-    ghost use Rattle.fleet_base.specs.Terrain.{Terrain, IsOpen};
+    ghost use Rattle.fleet_base.specs.Terrain.{Terrain, IsOpen, IsBeside};
     ghost use Rattle.fleet_base.specs.declared.grid.Cell.{Cell as ACell};
+    ghost use Rattle.fleet_base.specs.declared.grid.Side.{Side};
     ghost use Rattle.row_words.specs.Words.{IsSet};
     ghost use Rattle.fleet_base.specs.declared.grid.Side.TheVariants.{Up, Left, Right, Down};
+    ghost use Rattle.static_distance.specs.Distance.{IsDistance};
     ghost use Rattle.static_distance.specs.Levels.{IsPlaceOf, apart, uncounted};
     ghost use Rattle.static_distance.specs.Spreading.{IsFlood};
     ghost use Rattle.static_distance.specs.Spans.{stride, IsSpan, Holds, IsFree, AreSpans, flood_of, flood_with, HasEntered, HasSpreadTo, HasCounted, IsShut};
@@ -152,6 +154,38 @@ impl Distances {
         }
     }
 
+    /// The same for a cell beside one whose distance is known. It counts no farther than the level of that one.
+    #[inline(always)]
+    pub fn beside_at(
+        &mut self,
+        grid: &Grid,
+        cell: Cell,
+        place: Place,
+        from: Place,
+        left: u32,
+    ) -> Result<Option<u32>, Memory>
+        requires aimed { IsAimed grid.now self.old }
+        requires cell { cell.0 < length grid.now.cells }
+        requires place { IsPlaceOf grid.now cell place }
+        requires from { (c : ACell) × (side : Side) × IsPlaceOf grid.now c from × IsBeside grid.now side c cell × IsDistance grid.now self.old.goal c left }
+        ensures distance { IfOk result (AnswersDistance grid.now self.old.goal cell) }
+        ensures aimed { OnOk result (IsAimed grid.now self.new) }
+        ensures goal { self.new.goal ≡ self.old.goal }
+        ensures room { room self.new ≡ room self.old }
+    {
+        if !grid.is_open(cell) {
+            return Ok(None);
+        }
+        match self.marks.moves(cell.0) {
+            Some(moves) => Ok(Some(moves)),
+            None => {
+                let _limits = grid.cells();
+                let level = left.saturating_add(moves_between(from, self.toward));
+                self.count_beside(grid, cell, place, left, level)
+            }
+        }
+    }
+
     // Counts moves until an open cell has them, and tells them.
     fn count_to(&mut self, grid: &Grid, cell: Cell, place: Place) -> Result<Option<u32>, Memory>
         requires aimed { IsAimed grid.now self.old }
@@ -164,6 +198,37 @@ impl Distances {
         ensures room { room self.new ≡ room self.old }
     {
         while self.is_free(grid, cell, place) {
+            if !self.advance(grid)? {
+                return Ok(None);
+            }
+        }
+        Ok(self.marks.moves(cell.0))
+    }
+
+    // Counts moves until an open cell has them, or until all cells on the level of one beside it have: with a move less than from there
+    // its level would be no greater, and with as many it can't be, since each move leads to a cell of the other colour, as on a chessboard.
+    fn count_beside(
+        &mut self,
+        grid: &Grid,
+        cell: Cell,
+        place: Place,
+        left: u32,
+        level: u32,
+    ) -> Result<Option<u32>, Memory>
+        requires aimed { IsAimed grid.now self.old }
+        requires cell { cell.0 < length grid.now.cells }
+        requires place { IsPlaceOf grid.now cell place }
+        requires opens { IsOpen grid.now cell }
+        requires from { (c : ACell) × (side : Side) × IsBeside grid.now side c cell × IsDistance grid.now self.old.goal c left × (level ≡ min (left + apart grid.now self.old.toward c) u32.MAX) }
+        ensures distance { IfOk result (AnswersDistance grid.now self.old.goal cell) }
+        ensures aimed { OnOk result (IsAimed grid.now self.new) }
+        ensures goal { self.new.goal ≡ self.old.goal }
+        ensures room { room self.new ≡ room self.old }
+    {
+        while self.is_free(grid, cell, place) {
+            if self.level > level || (self.level == level && self.here.spans.is_empty()) {
+                return Ok(Some(left + 1));
+            }
             if !self.advance(grid)? {
                 return Ok(None);
             }
