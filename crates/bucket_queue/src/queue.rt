@@ -1,4 +1,4 @@
-ghost use Rattle.std.specs.Prelude.{◌≡◌, ◌<◌, ◌≤◌, Some, None, [], ◌∷◌, ◌++◌, length, slice_get, slice_set, IfOk, IfSome, IfNone, OnOk, OnErr};
+ghost use Rattle.std.specs.Prelude.{◌≡◌, ℕ, ◌<◌, ◌≤◌, Some, None, [], ◌∷◌, ◌++◌, length, slice_get, slice_set, IfOk, IfSome, IfNone, OnOk, OnErr};
 
 use crate::buckets::Buckets;
 use std::alloc::{AllocError, Global};
@@ -28,7 +28,7 @@ impl Model for BucketQueue {
 }
 
 impl BucketQueue {
-    ghost use Rattle.bucket_queue.specs.Queue.{TakesLeast, TakesNone};
+    ghost use Rattle.bucket_queue.specs.Queue.{HasKey, TakesLeast, TakesNone};
 
     /// A queue for keys up to `bound`, with no ids yet. It has one bucket for each key.
     pub fn new(alloc: Global, bound: u32) -> Result<BucketQueue, AllocError>
@@ -93,6 +93,15 @@ impl BucketQueue {
         self.floor
     }
 
+    /// Ids in no order, among which are all that are queued with the floor for their key. Others may be among them: those
+    /// that had this key, and numbers that are no ids.
+    #[inline(always)]
+    pub fn at_floor(&self) -> &[u32]
+        ensures all { (id : ℕ) → HasKey self.now.keys id self.now.floor → (place : ℕ) × (slice_get result.now place ≡ Some id) }
+    {
+        self.buckets.by_key[self.floor].as_slice()
+    }
+
     /// Queues an id with that key, or moves it there from the key that it has.
     #[inline(always)]
     pub fn put(&mut self, id: usize, key: u32) -> Result<(), AllocError>
@@ -119,6 +128,7 @@ impl BucketQueue {
         self.floor = spot.key;
         Some(id)
     }
+
     /// No ids any more, and the floor is 0 again. It passes the buckets up to the greatest key that was used since the last
     /// clearing, and keeps a little of their room.
     pub fn clear(&mut self)

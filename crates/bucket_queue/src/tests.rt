@@ -58,3 +58,15 @@ fn added_with_its_key(rt: HostRuntime) {
     }
     assert_eq!(rt; queue.take(9), None);
 }
+
+#[test]
+fn tells_who_has_the_floor_for_a_key(rt: HostRuntime) {
+    let mut queue = BucketQueue::new(rt.alloc(), 9).expect(&rt, "memory");
+    queue.add_at(4).expect(&rt, "memory");
+    queue.add_at(6).expect(&rt, "memory");
+    queue.add_at(4).expect(&rt, "memory");
+    queue.add_at(4).expect(&rt, "memory");
+    assert_eq!(rt; queue.take(9), Some(3));
+    let wanted: [u32; 2] = [0, 2];
+    assert!(rt; queue.at_floor() == wanted.as_slice());
+}
