@@ -22,10 +22,10 @@ use Rattle.sipp_search.specs.declared.states.State.{State}
 use Rattle.sipp_search.specs.declared.states.Arena.{Arena}
 use Rattle.sipp_search.specs.declared.ties.Ties.{Ties}
 use Rattle.sipp_search.specs.declared.ties.Waiting.{Waiting}
-use Rattle.sipp_search.specs.Marks.{spots_of, queued, key_by_mark}
+use Rattle.sipp_search.specs.Marks.{spots_of, queued, key_by_mark, key_of, keys_of}
 use Rattle.sipp_search.specs.Progress.{IsBound, MayMove, IsWithin, HasSeen, HasFinal, AreSpots, IsUnderWay}
 use Rattle.sipp_search.specs.Running.{IsSound}
-use Rattle.sipp_search.specs.Ties.{IsPaused, IsUnseenAt, HasNear, AreInGrid, IsListed, AreWaiting, ListsWaiting, AreQueued}
+use Rattle.sipp_search.specs.Ties.{IsPaused, IsUnseenAt, HasNear, AreInGrid, IsListed, IsWaiting, AreWaiting, ListsWaiting, AreQueued}
 use Rattle.sipp_search.proofs.Lists.{stands_map, stands_left, append_cases, slice_get-append_right}
 use Rattle.sipp_search.proofs.Moves.{IsReached, reached_free, reached_open, move_of_step, falls_back}
 use Rattle.sipp_search.proofs.Closing.{final_waits}
@@ -134,58 +134,65 @@ waiting_kept g states floor old new lists waiting few all = rw waiting (lists (s
 only_one : (one other : Waiting) (x : ℕ) → slice_get (one ∷ []) x ≡ Some other → one ≡ other
 only_one one other x at = let e : x ≡ 0 = omega (arith, slice_get_within (one ∷ []) x other at) in same_Some one other (rw e at at)
 
--- The list, while states are gone through from the newest on.
-module _ (g : Terrain) (states : List State) (floor : ℕ) where
-  -- those of the last n states are in the list
+-- The list, while the ids are gone through.
+module _ (g : Terrain) (states : List State) (floor : ℕ) (ids : List ℕ) where
+  -- those of the first n ids that wait are in the list
   pub record AreListed (n : ℕ) (waiting : List Waiting) : Type 0 where
     pub in_grid : AreInGrid waiting
     pub only : AreQueued g states floor waiting
-    pub listed : (i r : ℕ) (p : Spot) → length states ≤ i + n → slice_get states i ≡ Some (queued p r) → r + p.left ≡ floor → IsListed g waiting p.cell r
+    pub listed : (j i r : ℕ) (p : Spot) → j < n → slice_get ids j ≡ Some i → slice_get states i ≡ Some (queued p r) → r + p.left ≡ floor → IsListed g waiting p.cell r
 
   pub none_listed : (waiting : List Waiting) → waiting ≡ [] → AreListed 0 waiting
-  none_listed waiting none = record { in_grid = λ j one at. absurd (nobody j one at); only = λ j one at. absurd (nobody j one at); listed = λ i r p past at. absurd (omega (arith, past, slice_get_within states i (queued p r) at)) }
+  none_listed waiting none = record { in_grid = λ j one at. absurd (nobody j one at); only = λ j one at. absurd (nobody j one at); listed = λ j i r p before. absurd (omega (arith, before)) }
     where
       nobody : (j : ℕ) (one : Waiting) → slice_get waiting j ≡ Some one → ⊥
       nobody j one at = omega (arith, slice_get_within waiting j one at, ap length none)
 
-  pub all_listed : (n : ℕ) (waiting : List Waiting) → length states ≤ n → AreListed n waiting → AreWaiting g states floor waiting
-  all_listed n waiting all are = record { in_grid = are.in_grid; listed = λ i r p at key. are.listed i r p (omega (arith, all)) at key }
+  pub all_listed : (n : ℕ) (keys : List (Option ℕ)) (waiting : List Waiting) → length ids ≤ n → keys ≡ keys_of states
+      → ((id : ℕ) → slice_get keys id ≡ Some (Some floor) → (place : ℕ) × (slice_get ids place ≡ Some id)) → AreListed n waiting → AreWaiting g states floor waiting
+  all_listed n keys waiting all paired there are = record {
+    in_grid = are.in_grid;
+    listed = λ i r p at key.
+      (let has : slice_get keys i ≡ Some (Some floor) = rw paired (stands_map key_of states i (queued p r) at ∙ ap (λ (k : ℕ). Some (Some k)) key) in
+      let found = there i has in
+      are.listed found.0 i r p (omega (arith, all, slice_get_within ids found.0 i found.1)) found.1 at key);
+  }
 
-  module _ (n x : ℕ) (s : State) (waiting : List Waiting) (are : AreListed n waiting) (place_is : x + n + 1 ≡ length states) (at : slice_get states x ≡ Some s) where
-    pub one_listed : (r : ℕ) (one : Waiting) → s ≡ queued s.spot r → r + s.spot.left ≡ floor → IsPlaceOf g s.spot.cell one.place → (one.place.column < 2048) × (one.place.row < 2048) → one.arrival ≡ r
-        → AreListed (n + 1) (waiting ++ one ∷ [])
-    one_listed r one is key_is of near since = record {
+  module _ (n x : ℕ) (waiting : List Waiting) (are : AreListed n waiting) (place_is : slice_get ids n ≡ Some x) where
+    pub one_listed : (one : Waiting) → IsWaiting g states floor x one → AreListed (n + 1) (waiting ++ one ∷ [])
+    one_listed one of = record {
       in_grid = λ j other at'. elim (append_cases waiting (one ∷ []) j other at') [
         | inl before ↦ are.in_grid j other before
-        | inr last ↦ subst (λ (z : Waiting). (z.place.column < 2048) × (z.place.row < 2048)) (only_one one other last.0 last.2) near
+        | inr last ↦ subst (λ (z : Waiting). (z.place.column < 2048) × (z.place.row < 2048)) (only_one one other last.0 last.2) (of.4, of.5)
       ];
       only = λ j other at'. elim (append_cases waiting (one ∷ []) j other at') [
         | inl before ↦ are.only j other before
         | inr last ↦ subst (λ (z : Waiting). (i : ℕ) × (p : Spot) × (slice_get states i ≡ Some (queued p z.arrival)) × (z.arrival + p.left ≡ floor) × IsPlaceOf g p.cell z.place)
-            (only_one one other last.0 last.2) (x, s.spot, at ∙ ap (λ (z : State). Some z) (is ∙ ap (λ (m : ℕ). queued s.spot m) (sym since)), omega (arith, since, key_is), of)
+            (only_one one other last.0 last.2) (x, of.0, of.1, of.2, of.3)
       ];
-      listed = λ i r' p less at' key. elim (cases_lt x i) [
-        | inl later ↦
-            let old = are.listed i r' p (omega arith) at' key in
+      listed = λ j i r p less at_id at' key. elim (cases_lt j n) [
+        | inl before ↦
+            let old = are.listed j i r p before at_id at' key in
             (old.0, old.1, stands_left waiting (one ∷ []) old.0 old.1 old.2, old.3, old.4)
-        | inr first ↦
-            let e : i ≡ x = omega arith in
-            let same : queued p r' ≡ queued s.spot r = same_Some (queued p r') (queued s.spot r) (sym (rw e at at') ∙ (at ∙ ap (λ (z : State). Some z) is)) in
-            let times : r' + 0 ≡ r + 0 = same_Some (r' + 0) (r + 0) (ap (λ (z : State). key_by_mark z.mark 0) same) in
-            let cell : s.spot.cell ≡ p.cell = sym (ap (λ (z : State). z.spot.cell) same) in
-            (length waiting + 0, one, slice_get-append_right waiting (one ∷ []) 0, subst (λ (z : Cell). IsPlaceOf g z one.place) cell of, omega (arith, since, times))
+        | inr here ↦
+            let last : j ≡ n = omega (arith, less, here) in
+            let e : i ≡ x = same_Some i x (sym (rw last at at_id) ∙ place_is) in
+            let same : queued p r ≡ queued of.0 one.arrival = same_Some (queued p r) (queued of.0 one.arrival) (sym (rw e at at') ∙ of.1) in
+            let times : r + 0 ≡ one.arrival + 0 = same_Some (r + 0) (one.arrival + 0) (ap (λ (z : State). key_by_mark z.mark 0) same) in
+            let cell : of.0.cell ≡ p.cell = sym (ap (λ (z : State). z.spot.cell) same) in
+            (length waiting + 0, one, slice_get-append_right waiting (one ∷ []) 0, subst (λ (z : Cell). IsPlaceOf g z one.place) cell of.3, omega (arith, times))
       ];
     }
 
-    pub same_listed : ((r : ℕ) → s ≡ queued s.spot r → r + s.spot.left ≢ floor) → AreListed (n + 1) waiting
+    pub same_listed : ((p : Spot) (r : ℕ) → slice_get states x ≡ Some (queued p r) → r + p.left ≢ floor) → AreListed (n + 1) waiting
     same_listed none = record {
       in_grid = are.in_grid;
       only = are.only;
-      listed = λ i r p less at' key. elim (cases_lt x i) [
-        | inl later ↦ are.listed i r p (omega arith) at' key
-        | inr first ↦
-            let e : i ≡ x = omega arith in
-            let same : queued p r ≡ s = same_Some (queued p r) s (sym (rw e at at') ∙ at) in
-            absurd (none r (sym same ∙ ap (λ (z : State). queued z.spot r) same) (ap (λ (z : State). r + z.spot.left) (sym same) ∙ key))
+      listed = λ j i r p less at_id at' key. elim (cases_lt j n) [
+        | inl before ↦ are.listed j i r p before at_id at' key
+        | inr here ↦
+            let last : j ≡ n = omega (arith, less, here) in
+            let e : i ≡ x = same_Some i x (sym (rw last at at_id) ∙ place_is) in
+            absurd (none p r (rw e at at') key)
       ];
     }

@@ -126,6 +126,11 @@ pub record AreWaiting (g : Terrain) (states : List State) (floor : ℕ) (waiting
 abbrev pub ListsWaiting : Terrain → List State → ℕ → Ties → Type 0
 ListsWaiting g states floor ties = ties.few ≡ true → AreWaiting g states floor ties.waiting.items
 
+-- the state at that place is queued with that key, and this is where it is and since when
+abbrev pub IsWaiting : Terrain → List State → ℕ → ℕ → Waiting → Type 0
+IsWaiting g states key i one = (p : Spot) × (slice_get states i ≡ Some (queued p one.arrival)) × (one.arrival + p.left ≡ key) × IsPlaceOf g p.cell one.place
+    × (one.place.column < 2048) × (one.place.row < 2048)
+
 -- nothing else is in the list
 abbrev pub AreQueued : Terrain → List State → ℕ → List Waiting → Type 0
 AreQueued g states floor waiting = (j : ℕ) (one : Waiting) → slice_get waiting j ≡ Some one

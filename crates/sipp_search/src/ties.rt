@@ -7,13 +7,14 @@ ghost use Rattle.calendars.specs.Records.{covers, is_exchange};
 ghost use Rattle.calendars.specs.Assignments.{Assignment, Agrees, traffic_by};
 ghost use Rattle.sipp_search.specs.Marks.{final_count, final, queued, spots_of};
 ghost use Rattle.sipp_search.specs.Arena.{IsArena, AreChained};
+ghost use Rattle.sipp_search.specs.declared.states.Spot.{Spot as ASpot};
 ghost use Rattle.sipp_search.specs.Progress.{HasSeen};
 ghost use Rattle.static_distance.specs.Levels.{IsPlaceOf};
 ghost use Rattle.fleet_base.specs.Terrain.{Terrain};
 ghost use Rattle.fleet_base.specs.declared.grid.Cell.{Cell as ACell};
 ghost use Rattle.fleet_base.specs.declared.request.Request.{Request};
 ghost use Rattle.sipp_search.specs.Running.{IsReady, IsSound, Serves, KeepsKnown};
-ghost use Rattle.sipp_search.specs.Ties.{IsPaused, HaveRoom, AreTies, TellsArrival, TellsSide, TellsStep, IsUnseenAt, LoadedWhereSince, EarlierThan, IsFirstArrival, IsNear, HasNear, AreInGrid, AreWaiting, ListsWaiting, AreQueued};
+ghost use Rattle.sipp_search.specs.Ties.{IsPaused, HaveRoom, AreTies, TellsArrival, TellsSide, TellsStep, IsUnseenAt, LoadedWhereSince, EarlierThan, IsFirstArrival, IsNear, HasNear, AreInGrid, IsWaiting, AreWaiting, ListsWaiting, AreQueued};
 
 use crate::back::{Hop, push_hop};
 use crate::chain::{place_at, way_left};
@@ -93,8 +94,25 @@ fn arrival_with(state: State, key: usize) -> Option<u32>
     Some(arrival)
 }
 
-// Lists the queued states whose key is the floor, the newest first. Whether the list has all of them: it ends where it would
-// get long.
+// The state with that id, where it is queued with that key.
+fn waiting_with(task: &Task, arena: &Arena, id: u32, key: usize) -> Option<Waiting>
+    requires sound { (known : ℕ → Option (List Record)) × (size : ℕ) × IsSound task.now.grid.now task.now.request task.now.horizon known size arena.now }
+    ensures some { IfSome result (IsWaiting task.now.grid.now arena.now.states.items key id) }
+    ensures none { IfNone result ((p : ASpot) (r : ℕ) → slice_get arena.now.states.items id ≡ Some (queued p r) → r + p.left ≢ key) }
+{
+    let id = id as usize;
+    if id >= arena.states.len() {
+        return None;
+    }
+    let state = arena.states[id];
+    let arrival = arrival_with(state, key)?;
+    Some(Waiting {
+        place: place_of(task.grid, state.spot.cell),
+        arrival,
+    })
+}
+
+// Lists the queued states whose key is the floor. Whether the list has all of them: it ends where it would get long.
 fn list_waiting(task: &Task, arena: &Arena, waiting: &mut Vec<Waiting>) -> Result<bool, Memory>
     requires sound { (known : ℕ → Option (List Record)) × (size : ℕ) × IsSound task.now.grid.now task.now.request task.now.horizon known size arena.now }
     ensures all { IfOk result (λ few. OnTrue few (AreWaiting task.now.grid.now arena.now.states.items arena.now.queue.floor waiting.new.items)) }
@@ -102,15 +120,12 @@ fn list_waiting(task: &Task, arena: &Arena, waiting: &mut Vec<Waiting>) -> Resul
 {
     waiting.clear();
     let floor = arena.queue.floor();
-    let count = arena.states.len();
-    for back in 0..count {
-        let state = arena.states[count - 1 - back];
-        if let Some(arrival) = arrival_with(state, floor) {
+    for id in arena.queue.at_floor() {
+        if let Some(one) = waiting_with(task, arena, *id, floor) {
             if waiting.len() == SHORT {
                 return Ok(false);
             }
-            let place = place_of(task.grid, state.spot.cell);
-            waiting.push(Waiting { place, arrival })?;
+            waiting.push(one)?;
         }
     }
     Ok(true)
