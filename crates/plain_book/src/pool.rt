@@ -11,7 +11,7 @@ use std::marker::Model;
 // Up to so many cells, each has a calendar of its own from the beginning.
 const FEW: usize = 32768;
 
-// The room of a calendar's first record where there are few cells: routes cross each of them often.
+// The room of a calendar's first record where there are few cells: routes cross each of them often. A power of two.
 const ROOM: usize = 8;
 
 /// The calendar of each cell. Most cells of a great grid never have a record: these share one calendar. With few cells each
@@ -98,15 +98,16 @@ impl CalendarPool {
     }
 }
 
-// Puts a record into a calendar. The first one of a cell among few gets room for some.
+// Puts a record into a calendar. That of a cell among few gets room for some, and as much again whenever it is full.
 fn insert_in(few: bool, calendar: &mut Calendar, added: Record) -> Result<(), Memory>
     requires proper { added.from ≤ added.to }
     requires apart { IsApart added calendar.old }
     ensures ok { OnOk result (calendar.new ≡ with_record added calendar.old) }
     ensures refused { OnErr result (calendar.new ≡ calendar.old) }
 {
-    if few && calendar.records().is_empty() {
-        calendar.reserve(ROOM)?;
+    let count = calendar.records().len();
+    if few && (count == 0 || (count >= ROOM && count.is_power_of_two())) {
+        calendar.reserve(count.max(ROOM))?;
     }
     calendar.insert(added)
 }

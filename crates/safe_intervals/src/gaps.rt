@@ -85,6 +85,8 @@ pub fn crossing_at(from: &Calendar, before: usize, to: &Calendar, begun: usize, 
 
 /// How many records begin at that time or before. They are counted from the guess on, so one that is near costs least: the
 /// number for a cell beside at about that time, say.
+// Not copied to where it is called: the code of a search is small enough for the processor's cache so.
+#[inline(never)]
 pub fn begun_by(calendar: &Calendar, guess: usize, time: u32) -> usize
     ensures place { result ≡ place_in time calendar.now }
     ensures within { result ≤ length calendar.now }
