@@ -6,8 +6,8 @@ pub mod AimLemmas
 pub mod TakeLemmas
 pub mod OrderLemmas
 pub mod SpanLemmas
-pub mod BatchLemmas
-pub mod BatchListLemmas
+pub mod LayerLemmas
 pub mod MarkLemmas
+pub mod CountLemmas
 pub mod SideLemmas
 pub mod RowLemmas
