@@ -1,5 +1,8 @@
 ghost use Rattle.std.specs.Prelude.{◌≡◌, ◌≢◌, ℕ, suc, ◌+◌, ◌<◌, ◌≤◌, ◌++◌, ◌∷◌, [], List, Option, Some, IsSome, OnOk, IfOk, IfSome, IfNone, length, slice_get, slice_set};
 ghost use Rattle.std.specs.Bool.{OnTrue, OnFalse};
+ghost use Rattle.fleet_base.specs.Terrain.{IsBeside};
+ghost use Rattle.fleet_base.specs.declared.grid.Cell.{Cell as ACell};
+ghost use Rattle.fleet_base.specs.declared.grid.Side.{Side};
 ghost use Rattle.safe_intervals.specs.Safe.{IsIn};
 ghost use Rattle.static_distance.specs.Distance.{IsWay, IsDistance};
 ghost use Rattle.static_distance.specs.Levels.{IsPlaceOf};
@@ -168,4 +171,34 @@ pub fn way_left<V: CalendarView>(
         return Ok(Some(arena.states[newest as usize - 1].spot.left));
     }
     way_counted(task, view, arena, cell, place)
+}
+
+// The same as `way_counted` for a cell beside one whose distance is known: it is counted no farther than the level of that one.
+#[inline(always)]
+pub fn way_beside<V: CalendarView>(
+    task: &Task,
+    view: &V,
+    arena: &mut Arena,
+    cell: Cell,
+    place: Place,
+    from: Place,
+    known: u32,
+) -> Result<Option<u32>, Memory>
+    requires ready { IsReady task.now.grid.now task.now.request task.now.horizon (V.size view.now) }
+    requires sound { IsSound task.now.grid.now task.now.request task.now.horizon (V.known view.now) (V.size view.now) arena.old }
+    requires cell { cell.0 < V.size view.now }
+    requires place { IsPlaceOf task.now.grid.now cell place }
+    requires from { (c : ACell) × (side : Side) × IsPlaceOf task.now.grid.now c from × IsBeside task.now.grid.now side c cell × IsDistance task.now.grid.now task.now.request.goal c known }
+    ensures serves { Serves task.now.horizon (length task.now.grid.now.cells) arena.new }
+    ensures sound { OnOk result (IsSound task.now.grid.now task.now.request task.now.horizon (V.known view.now) (V.size view.now) arena.new) }
+    ensures states { arena.new.states ≡ arena.old.states }
+    ensures newest { arena.new.newest ≡ arena.old.newest }
+    ensures queue { arena.new.queue ≡ arena.old.queue }
+    ensures some { IfOk result (λ o. IfSome o (λ left. IsDistance task.now.grid.now task.now.request.goal cell left)) }
+    ensures none { IfOk result (λ o. IfNone o ((k : ℕ) → ¬ (IsWay task.now.grid.now task.now.request.goal cell k))) }
+{
+    let left = arena
+        .distances
+        .beside_at(task.grid, cell, place, from, known)?;
+    Ok(left)
 }

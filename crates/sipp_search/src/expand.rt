@@ -10,7 +10,7 @@ ghost use Rattle.sipp_search.specs.Progress.{IsArrived, IsUnderWay, Improves};
 ghost use Rattle.sipp_search.specs.Visiting.{HasLed};
 ghost use Rattle.static_distance.specs.Levels.{IsPlaceOf};
 
-use crate::chain::way_counted;
+use crate::chain::way_beside;
 use crate::enter::{enter_first, move_into};
 use crate::states::{Arena, Spot, Taken};
 use crate::task::Task;
@@ -53,7 +53,8 @@ fn move_first<V: CalendarView>(
         → IsUnderWay task.now.grid.now task.now.request task.now.horizon a arena.new.states.items arena.old.queue.floor x
         × ((c : ACell) → IsBeside task.now.grid.now side from.cell c → HasLed task.now.grid.now task.now.request task.now.horizon a arena.new.states.items from arrival c)) }
 {
-    let Some(left) = way_counted(task, &*view, arena, to, beside(place, side))? else {
+    let next = beside(place, side);
+    let Some(left) = way_beside(task, &*view, arena, to, next, place, from.left)? else {
         return Ok(());
     };
     view.load(to)?;

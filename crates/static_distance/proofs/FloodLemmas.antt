@@ -17,14 +17,14 @@ use Rattle.static_distance.specs.declared.waiting.Waiting.{Waiting}
 use Rattle.static_distance.specs.declared.distances.Distances.{Distances}
 use Rattle.static_distance.specs.Levels.{IsCounted, apart}
 use Rattle.static_distance.specs.Layers.{told}
-use Rattle.static_distance.specs.Marks.{mark_of, marks_of}
+use Rattle.static_distance.specs.Marks.{mark_of, marks_in, marks_of}
 use Rattle.static_distance.specs.Waiting.{IsListed}
 use Rattle.static_distance.specs.Spreading.{Flood, WaitsWell, IsFlood, HasCount, HasSpread}
 use Rattle.static_distance.specs.Spans.{IsSpan, IsCellAt, Holds, Stands, AreListed, IsFree, AreSpans, flood_of, flood_with, IsStep, IsLed, HasSpreadTo, IsShut, HasCounted}
 use Rattle.static_distance.specs.Rows.{HasMore, IsLedInRow}
 use Rattle.static_distance.proofs.Ways.{way_open}
 use Rattle.static_distance.proofs.Places.{column_at, apart_at}
-use Rattle.static_distance.proofs.MarkLemmas.{marks_count, counted_known, counted_told, told_mark}
+use Rattle.static_distance.proofs.MarkLemmas.{many_marks, counted_told, told_mark}
 use Rattle.static_distance.proofs.RowLemmas.{row_left, row_right}
 use Rattle.static_distance.proofs.SpreadLemmas.{risen_flood, flow_well, away_well, spread_flood}
 
@@ -81,16 +81,15 @@ mark_cases (zero ∷ marks) zero inside = inl refl
 mark_cases (suc k ∷ marks) zero inside = inr (k, refl)
 mark_cases (m ∷ marks) (suc i) inside = mark_cases marks i (omega arith)
 
-count_cases : (g : Terrain) (d : Distances) (c : Cell) → IsOpen g c → (slice_get (marks_of g d) c.0 ≡ Some 0) ⊎ HasCount (marks_of g d) c
-count_cases g d c opened =
-    let inside : c.0 < length g.cells = slice_get_within g.cells c.0 true opened in mark_cases (marks_of g d) c.0 (omega (arith, marks_count g d.toward d.known d.layers))
+count_cases : (g : Terrain) (marks : List ℕ) (c : Cell) → length marks ≡ length g.cells → IsOpen g c → (slice_get marks c.0 ≡ Some 0) ⊎ HasCount marks c
+count_cases g marks c fit opened = let inside : c.0 < length g.cells = slice_get_within g.cells c.0 true opened in mark_cases marks c.0 (omega (arith, fit))
 
 -- an open cell of a span that wasn't looked at isn't counted, and one of another span where the span's word has it
 module _ (g : Terrain) (d : Distances) (s : Span) (i : ℕ) (c : Cell) (spans : AreSpans g d) (is : IsSpan g s) (at : IsCellAt g s i c) (opened : IsOpen g c) where
   pub unknown_free : slice_get d.known s.number ≢ Some 1 → slice_get (marks_of g d) c.0 ≡ Some 0
-  unknown_free unknown = elim (count_cases g d c opened) [
+  unknown_free unknown = elim (count_cases g (marks_of g d) c spans.marks_fit opened) [
     | inl free ↦ free
-    | inr counted ↦ absurd (unknown (counted_known g s is d.toward d.known d.layers i c at counted.0 counted.1))
+    | inr counted ↦ absurd (unknown (spans.looked s i counted.0 c is at counted.1))
   ]
 
   pub word_free : slice_get d.known s.number ≡ Some 1 → (w : ℕ) → slice_get d.free.items s.number ≡ Some w → IsSet w i ↔ (slice_get (marks_of g d) c.0 ≡ Some 0)
@@ -100,24 +99,27 @@ module _ (g : Terrain) (d : Distances) (s : Span) (i : ℕ) (c : Cell) (spans : 
   )
 
 -- a cell that is counted is on a level that the layers of its span tell, and its moves are what is left of it
-module _ (g : Terrain) (d : Distances) (s : Span) (i : ℕ) (c : Cell) (is : IsSpan g s) (at : IsCellAt g s i c) (opened : IsOpen g c)
-    (counted : ¬ (slice_get (marks_of g d) c.0 ≡ Some 0)) where
+module _ (g : Terrain) (d : Distances) (s : Span) (i : ℕ) (c : Cell) (spans : AreSpans g d) (is : IsSpan g s) (at : IsCellAt g s i c) (opened : IsOpen g c)
+    (many : d.few ≡ false) (counted : ¬ (slice_get (marks_of g d) c.0 ≡ Some 0)) where
   has_count : HasCount (marks_of g d) c
-  has_count = elim (count_cases g d c opened) [
+  has_count = elim (count_cases g (marks_of g d) c spans.marks_fit opened) [
     | inl none ↦ absurd (counted none)
     | inr has ↦ has
   ]
 
   pub counted_span : slice_get d.known s.number ≡ Some 1
-  counted_span = counted_known g s is d.toward d.known d.layers i c at has_count.0 has_count.1
+  counted_span = spans.looked s i has_count.0 c is at has_count.1
 
   pub counted_level : told d.layers s.number i ≢ 0
-  counted_level = counted_told g s is d.toward d.known d.layers i c at has_count.0 has_count.1
+  counted_level =
+      let in_layers : IsCounted (marks_in g d.toward d.known d.layers) c has_count.0 = subst (λ (ms : List ℕ). IsCounted ms c has_count.0) (many_marks g d many) has_count.1 in
+      counted_told g s is d.toward d.known d.layers i c at has_count.0 in_layers
 
   pub counted_moves : (level : ℕ) → told d.layers s.number i ≡ suc level → IsCounted (marks_of g d) c (level - apart g d.toward c)
   counted_moves level on_level =
-      told_mark g s is d.toward d.known d.layers i c at (slice_get_within g.cells c.0 true opened) counted_span
-      ∙ ap (λ (t : ℕ). Some (mark_of 1 t (apart g d.toward c))) on_level
+      ap (λ (ms : List ℕ). slice_get ms c.0) (many_marks g d many)
+      ∙ (told_mark g s is d.toward d.known d.layers i c at (slice_get_within g.cells c.0 true opened) counted_span
+      ∙ ap (λ (t : ℕ). Some (mark_of 1 t (apart g d.toward c))) on_level)
 
 -- The batch of a span: what flows from its seeds, over free cells, toward the column that is aimed at.
 module _ (g : Terrain) (s : Span) (seeds free up down batch : ℕ) (old : Distances) (span : IsSpan g s) (known : slice_get old.known s.number ≡ Some 1) (spans : AreSpans g old)
@@ -164,7 +166,7 @@ module _ (g : Terrain) (s : Span) (seeds free up down batch : ℕ) (old : Distan
   seed_cases c (i, seed, at) =
       let well = flood.here_well c (inr (i, seed, at)) in
       let opened : IsOpen g c = way_open g well.2 in
-      elim (count_cases g old c opened) [
+      elim (count_cases g (marks_of g old) c spans.marks_fit opened) [
         | inr counted ↦ inr counted
         | inl none ↦ inl (i, filled.all i (begin seed (spans.free_all s free i c span known free_is at (opened, none))), at)
       ]
@@ -195,7 +197,7 @@ module _ (g : Terrain) (s : Span) (seeds free up down batch : ℕ) (old : Distan
   -- After the batch is counted no free cell of its span is led to closer in the row.
   module _ (d1 d : Distances) (counted : HasCounted g s batch old d1) (marks_same : marks_of g d ≡ marks_of g d1) (toward_same : d.toward ≡ old.toward) where
     free_old : (n : Cell) → IsFree g (marks_of g d) n → IsFree g (marks_of g old) n
-    free_old n (opened, none) = elim (count_cases g old n opened) [
+    free_old n (opened, none) = elim (count_cases g (marks_of g old) n spans.marks_fit opened) [
       | inl free_before ↦ (opened, free_before)
       | inr is ↦ absurd (
           let now : IsCounted (marks_of g d1) n is.0 = counted.still n is.0 is.1 in
@@ -316,8 +318,8 @@ module _ (g : Terrain) (s : Span) (seeds free up down batch : ℕ) (old : Distan
     free_waits c n Left held beside free_one = row_waits c n (row_left g s batch d3 d4 row c n held beside (subst (λ (ms : List ℕ). IsFree g ms n) (sym (two.kept.marks ∙ one.kept.marks)) free_one))
     free_waits c n Right held beside free_one = row_waits c n (row_right g s batch d3 d4 row c n held beside (subst (λ (ms : List ℕ). IsFree g ms n) (sym (two.kept.marks ∙ one.kept.marks)) free_one))
 
-    pub has_spread : HasSpread g (λ c. Holds g s batch c) before (flood_of g d4)
-    has_spread = record {
+    pub has_spread : length (marks_of g d1) ≡ length g.cells → HasSpread g (λ c. Holds g s batch c) before (flood_of g d4)
+    has_spread fit = record {
       goal = row.kept.goal ∙ (two.kept.goal ∙ (one.kept.goal ∙ counted.goal));
       toward = row.kept.toward ∙ (two.kept.toward ∙ (one.kept.toward ∙ counted.toward));
       level = row.kept.level ∙ (two.kept.level ∙ (one.kept.level ∙ counted.level));
@@ -335,11 +337,11 @@ module _ (g : Terrain) (s : Span) (seeds free up down batch : ℕ) (old : Distan
         ])
       ];
       next_kept = λ c stands. inl (next_after c stands);
-      spread = λ c n side held beside opened. elim (count_cases g d1 n opened) [
+      spread = λ c n side held beside opened. elim (count_cases g (marks_of g d1) n fit opened) [
         | inr is ↦ inl (is.0, subst (λ (ms : List ℕ). IsCounted ms n is.0) (sym marks_is) is.1)
         | inl none ↦ inr (free_waits c n side held beside (opened, none))
       ];
     }
 
-    pub spread_spans : IsFlood g (flood_of g d4)
-    spread_spans = spread_flood g (λ c. Holds g s batch c) before (flood_of g d4) flood has_spread
+    pub spread_spans : length (marks_of g d1) ≡ length g.cells → IsFlood g (flood_of g d4)
+    spread_spans fit = spread_flood g (λ c. Holds g s batch c) before (flood_of g d4) flood (has_spread fit)

@@ -3,11 +3,13 @@ pub mod Places
 pub mod SpreadLemmas
 pub mod FloodLemmas
 pub mod AimLemmas
+pub mod BesideLemmas
 pub mod TakeLemmas
 pub mod OrderLemmas
 pub mod SpanLemmas
 pub mod LayerLemmas
 pub mod MarkLemmas
+pub mod ListLemmas
 pub mod CountLemmas
 pub mod SideLemmas
 pub mod RowLemmas

@@ -1,7 +1,7 @@
 -- The list of marks: what it tells of a cell of a span, and where it stays the same.
-use Rattle.std.proofs.Common.{◌≡◌, ◌≢◌, ℕ, zero, suc, ◌+◌, ◌-◌, ◌*◌, ◌/◌, ◌%◌, ◌<◌, ◌⊎◌, inl, inr, List, [], ◌∷◌, length, get_or, replicate, Some, refl, sym, ap, subst, ◌∙◌, arith, set}
+use Rattle.std.proofs.Common.{◌≡◌, ◌≢◌, ℕ, zero, suc, ◌+◌, ◌-◌, ◌*◌, ◌/◌, ◌%◌, ◌<◌, ◌⊎◌, inl, inr, Bool, true, false, List, [], ◌∷◌, length, get_or, replicate, Some, refl, sym, ap, subst, ◌∙◌, arith, set}
 use Rattle.std.specs.Prelude.{slice_get}
-use Rattle.std.proofs.lemmas.Bool.{cases_eq, cases_lt}
+use Rattle.std.proofs.lemmas.Bool.{cases_eq, cases_lt, cases_Bool}
 use Rattle.std.proofs.lemmas.List.{get_or-set_same, get_or-set_other, get_or_past}
 use Rattle.std.proofs.lemmas.Nat.{mod-mul-add, div-mul-add, div-add-mod'}
 use Rattle.std.proofs.lemmas.Option.{same_Some, slice_get_within, slice_get-get_or, get_or_from_slice_get}
@@ -13,7 +13,8 @@ use Rattle.static_distance.specs.declared.place.Place.{Place}
 use Rattle.static_distance.specs.declared.span.Span.{Span}
 use Rattle.static_distance.specs.Levels.{IsCounted, apart}
 use Rattle.static_distance.specs.Layers.{no_layer, told_from, newest_of, told}
-use Rattle.static_distance.specs.Marks.{stride, span_number, span_place, mark_of, mark_at, numbers, marks_in}
+use Rattle.static_distance.specs.declared.distances.Distances.{Distances}
+use Rattle.static_distance.specs.Marks.{stride, span_number, span_place, mark_of, mark_at, numbers, marks_in, listed_or, marks_of}
 use Rattle.static_distance.specs.Spans.{IsSpan, IsCellAt}
 use Rattle.static_distance.proofs.Places.{column_at, row_at}
 use Rattle.static_distance.proofs.LayerLemmas.{none_told, newest_here, newest_there}
@@ -102,6 +103,22 @@ module _ (g : Terrain) (toward : Place) (known : List ℕ) (layers : Layers) whe
   none_marked spans none = numbers_zero (mark_at g toward known layers) 0 (length g.cells) (λ n.
       (let zero_known : get_or known (span_number g n) 0 ≡ 0 = ap (λ (xs : List ℕ). get_or xs (span_number g n) 0) none ∙ zeros_read spans (span_number g n) in
       unknown_mark (get_or known (span_number g n) 0) (told layers (span_number g n) (span_place g n)) (apart g toward (record { 0 = n })) (omega arith)))
+
+-- ---- few cells, or many
+
+module _ (g : Terrain) (d : Distances) where
+  pub few_marks : d.few ≡ true → marks_of g d ≡ d.by_cell
+  few_marks few = ap (λ (b : Bool). listed_or b d.by_cell (marks_in g d.toward d.known d.layers)) few
+
+  pub many_marks : d.few ≡ false → marks_of g d ≡ marks_in g d.toward d.known d.layers
+  many_marks many = ap (λ (b : Bool). listed_or b d.by_cell (marks_in g d.toward d.known d.layers)) many
+
+  -- no cell has a mark
+  pub cleared_marks : (spans : ℕ) → d.known ≡ replicate spans 0 → (d.few ≡ true → d.by_cell ≡ replicate (length g.cells) 0) → marks_of g d ≡ replicate (length g.cells) 0
+  cleared_marks spans none listed = elim (cases_Bool d.few) [
+    | inl few ↦ few_marks few ∙ listed few
+    | inr many ↦ many_marks many ∙ none_marked g d.toward d.known d.layers spans none
+  ]
 
 -- ---- the cells of a span
 

@@ -99,16 +99,15 @@ put_added old new span word before both at words either spans = record {
 pub turned_spans : (g : Terrain) (old : Distances) (level : ℕ) (here next : Waiting) → AreSpans g old → here.words ≡ old.next.words → here.spans.items ≡ reverse old.next.spans.items → next ≡ old.here
     → AreSpans g (record old { level = level; here = here; next = next })
 turned_spans g old level here next are words spans next_is = record {
+  marks_fit = are.marks_fit;
   known_fit = are.known_fit;
   free_fit = are.free_fit;
   here_fit = ap (λ (v : Vec ℕ Global). length v.items) words ∙ are.next_fit;
   next_fit = ap (λ (w : Waiting). length w.words.items) next_is ∙ are.here_fit;
-  layers_fit = are.layers_fit;
   free_only = are.free_only;
   free_all = are.free_all;
-  falling = are.falling;
-  linked = are.linked;
-  few = are.few;
+  looked = are.looked;
+  layered = are.layered;
   here_listed = subst (λ (xs : List Span). AreListed g old.known here.words.items xs) (sym spans)
       (subst (λ (v : Vec ℕ Global). AreListed g old.known v.items (reverse old.next.spans.items)) (sym words) (turned_listed g old.known old.next.words.items old.next.spans.items are.next_listed));
   next_listed = subst (λ (w : Waiting). AreListed g old.known w.words.items w.spans.items) (sym next_is) are.here_listed;

@@ -2,7 +2,7 @@
 use Rattle.std.proofs.Common.{◌≡◌, ◌≢◌, ℕ, zero, suc, ◌+◌, ◌-◌, ◌*◌, ◌/◌, ◌%◌, ◌<◌, ◌≤◌, ◌⊎◌, ◌↔◌, inl, inr, min, get_or, Bool, true, false, List, [], ◌∷◌, length, Some, refl, sym, ap, subst, ◌∙◌, arith, set, take, drop}
 use Rattle.std.specs.Prelude.{slice_get, Vec}
 use Rattle.std.specs.Global.{Global}
-use Rattle.std.proofs.lemmas.Bool.{cases_eq}
+use Rattle.std.proofs.lemmas.Bool.{cases_eq, cases_Bool}
 use Rattle.std.proofs.lemmas.List.{length-set, length-take}
 use Rattle.std.proofs.lemmas.Nat.{mod-mul-add, div-mul-add, mul-add-lt}
 use Rattle.std.proofs.lemmas.Option.{slice_get_within, slice_get-get_or, slice_get_read, same_Some}
@@ -20,10 +20,10 @@ use Rattle.static_distance.specs.Levels.{IsCounted, uncounted}
 use Rattle.static_distance.specs.Layers.{no_layer, newest_of, AreFalling, IsLinked}
 use Rattle.static_distance.specs.Marks.{stride, marks_in, marks_of}
 use Rattle.static_distance.specs.Waiting.{IsListed, HasAdded}
-use Rattle.static_distance.specs.Spans.{IsSpan, IsCellAt, Holds, Stands, AreListed, IsFree, AreSpans, HasEntered}
+use Rattle.static_distance.specs.Spans.{IsSpan, IsCellAt, Holds, Stands, AreListed, IsFree, AreLayers, AreSpans, HasEntered}
 use Rattle.static_distance.specs.Aim.{HasLooked}
 use Rattle.static_distance.proofs.LayerLemmas.{newest_here, newest_there, newest_count}
-use Rattle.static_distance.proofs.MarkLemmas.{part_inside, marks_count, counted_known, begun_marks}
+use Rattle.static_distance.proofs.MarkLemmas.{part_inside, few_marks, many_marks, begun_marks}
 
 -- ---- lists
 
@@ -176,6 +176,8 @@ module _ (g : Terrain) where
     pub goal : e.goal ≡ d.goal
     pub toward : e.toward ≡ d.toward
     pub level : e.level ≡ d.level
+    pub few : e.few ≡ d.few
+    pub by_cell : e.by_cell ≡ d.by_cell
     pub known : e.known ≡ set d.known n 1
     pub free : e.free.items ≡ set d.free.items n word
     pub here : e.here.words.items ≡ set d.here.words.items n 0
@@ -199,31 +201,50 @@ module _ (g : Terrain) where
     in_next : s.number < length d.next.words.items
     in_next = span_within s d.next.words.items is spans.next_fit
 
-    in_layers : s.number < length d.layers.newest.items
-    in_layers = omega (arith, spans.layers_fit, span_inside s is)
+    known_then : (k : ℕ) → slice_get d.known k ≡ Some 1 → slice_get e.known k ≡ Some 1
+    known_then k at = ap (λ (xs : List ℕ). slice_get xs k) looks.known ∙ known_still d.known s.number k unknown at
+
+    -- where there are many cells the span is begun in the layers
+    module _ (layered : AreLayers g d.known d.layers (marks_of g d)) where
+      in_layers : s.number < length d.layers.newest.items
+      in_layers = omega (arith, layered.fit, span_inside s is)
+
+      layers_tell : marks_in g e.toward e.known e.layers ≡ marks_in g d.toward d.known d.layers
+      layers_tell =
+          ap (λ (p : Place). marks_in g p e.known e.layers) looks.toward
+          ∙ begun_marks g d.toward d.known e.known d.layers e.layers s.number unknown (span_within s d.known is spans.known_fit) in_layers looks.known looks.newest looks.older
+
+      looked_linked : (n : ℕ) → slice_get e.known n ≡ Some 1 → IsLinked e.layers n
+      looked_linked n known_is = elim (cases_eq n s.number) [
+        | inl same ↦ subst (λ (z : Layer). z.older ≤ length e.layers.older.items) (sym (ap (newest_of e.layers) same ∙ newest_here d.layers e.layers s.number no_layer in_layers looks.newest)) (omega arith)
+        | inr other ↦
+            let before : IsLinked d.layers n = layered.linked n (known_before d.known s.number n other (ap (λ (xs : List ℕ). slice_get xs n) (sym looks.known) ∙ known_is)) in
+            subst (λ (z : Layer). z.older ≤ length e.layers.older.items) (sym (newest_there d.layers e.layers s.number no_layer in_layers looks.newest n other))
+            (subst (λ (v : Vec Layer Global). (newest_of d.layers n).older ≤ length v.items) (sym looks.older) before)
+      ]
+
+      looked_layers : AreLayers g e.known e.layers (marks_of g d)
+      looked_layers = record {
+        fit = newest_count d.layers e.layers s.number no_layer in_layers looks.newest ∙ layered.fit;
+        falling = subst (λ (v : Vec Layer Global). AreFalling v.items) (sym looks.older) layered.falling;
+        linked = looked_linked;
+        few = omega (arith, layered.few, ap (λ (v : Vec Layer Global). length v.items) looks.older);
+      }
 
     looked_marks : marks_of g e ≡ marks_of g d
-    looked_marks =
-        ap (λ (p : Place). marks_in g p e.known e.layers) looks.toward
-        ∙ begun_marks g d.toward d.known e.known d.layers e.layers s.number unknown (span_within s d.known is spans.known_fit) in_layers looks.known looks.newest looks.older
-
-    looked_linked : (n : ℕ) → slice_get e.known n ≡ Some 1 → IsLinked e.layers n
-    looked_linked n known_is = elim (cases_eq n s.number) [
-      | inl same ↦ subst (λ (z : Layer). z.older ≤ length e.layers.older.items) (sym (ap (newest_of e.layers) same ∙ newest_here d.layers e.layers s.number no_layer in_layers looks.newest)) (omega arith)
-      | inr other ↦
-          let before : IsLinked d.layers n = spans.linked n (known_before d.known s.number n other (ap (λ (xs : List ℕ). slice_get xs n) (sym looks.known) ∙ known_is)) in
-          subst (λ (z : Layer). z.older ≤ length e.layers.older.items) (sym (newest_there d.layers e.layers s.number no_layer in_layers looks.newest n other))
-          (subst (λ (v : Vec Layer Global). (newest_of d.layers n).older ≤ length v.items) (sym looks.older) before)
+    looked_marks = elim (cases_Bool d.few) [
+      | inl few ↦ few_marks g e (looks.few ∙ few) ∙ (looks.by_cell ∙ sym (few_marks g d few))
+      | inr many ↦ many_marks g e (looks.few ∙ many) ∙ (layers_tell (spans.layered many) ∙ sym (many_marks g d many))
     ]
 
     -- no cell of the span is counted, so that those that are open are free
     open_free : (i : ℕ) (c : Cell) → IsCellAt g s i c → IsOpen g c → IsFree g (marks_of g d) c
     open_free i c cell is_open =
-        let inside : c.0 < length (marks_of g d) = omega (arith, marks_count g d.toward d.known d.layers, slice_get_within g.cells c.0 true is_open) in (
+        let inside : c.0 < length (marks_of g d) = omega (arith, spans.marks_fit, slice_get_within g.cells c.0 true is_open) in (
           is_open,
           elim (free_or_counted (marks_of g d) c (get_or (marks_of g d) c.0 0) (slice_get-get_or (marks_of g d) c.0 0 inside)) [
             | inl free ↦ free
-            | inr (k, counted) ↦ absurd (unknown (counted_known g s is d.toward d.known d.layers i c cell k counted))
+            | inr (k, counted) ↦ absurd (unknown (spans.looked s i k c is cell counted))
           ],
         )
 
@@ -262,17 +283,16 @@ module _ (g : Terrain) where
 
     looked_spans : AreSpans g e
     looked_spans = record {
+      marks_fit = ap length looked_marks ∙ spans.marks_fit;
       known_fit = ap length looks.known ∙ (length-set d.known s.number 1 ∙ spans.known_fit);
       free_fit = ap length looks.free ∙ (length-set d.free.items s.number word ∙ spans.free_fit);
       here_fit = ap length looks.here ∙ (length-set d.here.words.items s.number 0 ∙ spans.here_fit);
       next_fit = ap length looks.next ∙ (length-set d.next.words.items s.number 0 ∙ spans.next_fit);
-      layers_fit = newest_count d.layers e.layers s.number no_layer in_layers looks.newest ∙ spans.layers_fit;
       free_only = λ t w i is' known_is at set below.
           subst (λ (marks : List ℕ). (c : Cell) × IsCellAt g t i c × IsFree g marks c) (sym looked_marks) (looked_free_only t w i is' known_is at set below);
       free_all = λ t w i c is' known_is at cell free. looked_free_all t w i c is' known_is at cell (subst (λ (marks : List ℕ). IsFree g marks c) looked_marks free);
-      falling = subst (λ (v : Vec Layer Global). AreFalling v.items) (sym looks.older) spans.falling;
-      linked = looked_linked;
-      few = omega (arith, spans.few, ap (λ (v : Vec Layer Global). length v.items) looks.older, ap uncounted looked_marks);
+      looked = λ t i k c is' cell counted. known_then t.number (spans.looked t i k c is' cell (subst (λ (marks : List ℕ). IsCounted marks c k) looked_marks counted));
+      layered = λ many. subst (λ (marks : List ℕ). AreLayers g e.known e.layers marks) (sym looked_marks) (looked_layers (spans.layered (sym looks.few ∙ many)));
       here_listed = rw (looks.known, looks.here, looks.here_spans) (listed_still d.known d.here.words.items s.number in_here unknown d.here.spans.items spans.here_listed);
       next_listed = rw (looks.known, looks.next, looks.next_spans) (listed_still d.known d.next.words.items s.number in_next unknown d.next.spans.items spans.next_listed);
     }
@@ -361,32 +381,30 @@ module _ (g : Terrain) where
   module _ (m : Distances) (s : Span) (word : ℕ) (is : IsSpan g s) (spans : AreSpans g m) (known_is : slice_get m.known s.number ≡ Some 1) (new : Waiting) where
     pub spans_here : HasAdded m.here new s word → length new.words.items ≡ length m.here.words.items → AreSpans g (record m { here = new })
     spans_here added fits = record {
+      marks_fit = spans.marks_fit;
       known_fit = spans.known_fit;
       free_fit = spans.free_fit;
       here_fit = fits ∙ spans.here_fit;
       next_fit = spans.next_fit;
-      layers_fit = spans.layers_fit;
       free_only = spans.free_only;
       free_all = spans.free_all;
-      falling = spans.falling;
-      linked = spans.linked;
-      few = spans.few;
+      looked = spans.looked;
+      layered = spans.layered;
       here_listed = added_listed m.known m.here new s word is known_is added (span_within s new.words.items is (fits ∙ spans.here_fit)) spans.here_listed;
       next_listed = spans.next_listed;
     }
 
     pub spans_next : HasAdded m.next new s word → length new.words.items ≡ length m.next.words.items → AreSpans g (record m { next = new })
     spans_next added fits = record {
+      marks_fit = spans.marks_fit;
       known_fit = spans.known_fit;
       free_fit = spans.free_fit;
       here_fit = spans.here_fit;
       next_fit = fits ∙ spans.next_fit;
-      layers_fit = spans.layers_fit;
       free_only = spans.free_only;
       free_all = spans.free_all;
-      falling = spans.falling;
-      linked = spans.linked;
-      few = spans.few;
+      looked = spans.looked;
+      layered = spans.layered;
       here_listed = spans.here_listed;
       next_listed = added_listed m.known m.next new s word is known_is added (span_within s new.words.items is (fits ∙ spans.next_fit)) spans.next_listed;
     }

@@ -36,16 +36,15 @@ last_cases (z ∷ xs) y x (suc i) at = last_cases xs y x i at
 -- the list of what waits may be written as what it is equal to
 pub same_lists : (g : Terrain) (d : Distances) (here : Waiting) → AreSpans g d → here.words ≡ d.here.words → here.spans.items ≡ d.here.spans.items → AreSpans g (record d { here = here })
 same_lists g d here spans words items = record {
+  marks_fit = spans.marks_fit;
   known_fit = spans.known_fit;
   free_fit = spans.free_fit;
   here_fit = ap (λ (v : Vec ℕ Global). length v.items) words ∙ spans.here_fit;
   next_fit = spans.next_fit;
-  layers_fit = spans.layers_fit;
   free_only = spans.free_only;
   free_all = spans.free_all;
-  falling = spans.falling;
-  linked = spans.linked;
-  few = spans.few;
+  looked = spans.looked;
+  layered = spans.layered;
   here_listed = subst (λ (xs : List Span). AreListed g d.known here.words.items xs) (sym items) (subst (λ (v : Vec ℕ Global). AreListed g d.known v.items d.here.spans.items) (sym words) spans.here_listed);
   next_listed = spans.next_listed;
 }
@@ -91,16 +90,15 @@ module _ (g : Terrain) (d : Distances) (s : Span) (here : Waiting) (spans : AreS
 
   pub taken_spans : AreSpans g (record d { here = here })
   taken_spans = record {
+    marks_fit = spans.marks_fit;
     known_fit = spans.known_fit;
     free_fit = spans.free_fit;
     here_fit = ap length words ∙ (length-set d.here.words.items s.number 0 ∙ spans.here_fit);
     next_fit = spans.next_fit;
-    layers_fit = spans.layers_fit;
     free_only = spans.free_only;
     free_all = spans.free_all;
-    falling = spans.falling;
-    linked = spans.linked;
-    few = spans.few;
+    looked = spans.looked;
+    layered = spans.layered;
     here_listed = record {
       spans_are = λ j t at. spans.here_listed.spans_are j t (subst (λ (xs : List Span). slice_get xs j ≡ Some t) (sym items) (kept_before here.spans.items s t j at));
       listed = still_listed;

@@ -1,5 +1,5 @@
--- The marks of all cells, as the layers of their spans tell them.
-use Rattle.std.specs.Prelude.{◌≡◌, ℕ, zero, suc, ◌+◌, ◌-◌, ◌*◌, ◌/◌, ◌%◌, List, [], ◌∷◌, length, get_or}
+-- The marks of all cells: with few cells as a list has them, with many as the layers of their spans tell them.
+use Rattle.std.specs.Prelude.{◌≡◌, ℕ, zero, suc, ◌+◌, ◌-◌, ◌*◌, ◌/◌, ◌%◌, Bool, true, false, List, [], ◌∷◌, length, get_or}
 use Rattle.fleet_base.specs.declared.grid.Cell.{Cell}
 use Rattle.fleet_base.specs.Terrain.{Terrain}
 use Rattle.static_distance.specs.declared.place.Place.{Place}
@@ -35,9 +35,15 @@ abbrev pub numbers : (ℕ → ℕ) → ℕ → ℕ → List ℕ
 numbers mark n zero = []
 numbers mark n (suc count) = mark n ∷ numbers mark (suc n) count
 
--- the marks of all cells
+-- the marks of all cells that layers tell
 unfoldable pub marks_in : Terrain → Place → List ℕ → Layers → List ℕ
 marks_in g toward known layers = numbers (mark_at g toward known layers) 0 (length g.cells)
 
+-- the first list where there are few cells, else the second one
+abbrev pub listed_or : Bool → List ℕ → List ℕ → List ℕ
+listed_or true listed layered = listed
+listed_or false listed layered = layered
+
+-- the marks of all cells
 abbrev pub marks_of : Terrain → Distances → List ℕ
-marks_of g d = marks_in g d.toward d.known d.layers
+marks_of g d = listed_or d.few d.by_cell (marks_in g d.toward d.known d.layers)

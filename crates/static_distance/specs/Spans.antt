@@ -6,6 +6,7 @@ use Rattle.fleet_base.specs.Terrain.{Terrain, IsOpen, IsAt, IsBeside}
 use Rattle.row_words.specs.Words.{IsSet}
 use Rattle.static_distance.specs.declared.span.Span.{Span}
 use Rattle.static_distance.specs.declared.place.Place.{Place}
+use Rattle.static_distance.specs.declared.layers.Layers.{Layers}
 use Rattle.static_distance.specs.declared.distances.Distances.{Distances}
 use Rattle.static_distance.specs.Levels.{IsCounted, apart, uncounted}
 use Rattle.static_distance.specs.Layers.{AreFalling, IsLinked}
@@ -47,20 +48,27 @@ pub record AreListed (g : Terrain) (known words : List ℕ) (spans : List Span) 
 abbrev pub IsFree : Terrain → List ℕ → Cell → Type 0
 IsFree g marks c = IsOpen g c × (slice_get marks c.0 ≡ Some 0)
 
--- There is a word for each span. The free cells of a span that was looked at are those of its word. There is a newest layer for each span, those of spans that were looked at
--- lead to older ones that there are, and there are no more of these than cells that are counted.
+-- There is a newest layer for each span, those of spans that were looked at lead to older ones that there are, and there are no more of these than
+-- cells that are counted.
+pub record AreLayers (g : Terrain) (known : List ℕ) (layers : Layers) (marks : List ℕ) : Type 0 where
+  pub fit : length layers.newest.items ≡ g.height * stride g
+  pub falling : AreFalling layers.older.items
+  pub linked : (n : ℕ) → slice_get known n ≡ Some 1 → IsLinked layers n
+  pub few : length layers.older.items + uncounted marks ≤ length g.cells
+
+-- There is a word for each span. The free cells of a span that was looked at are those of its word, and no cell of another one is counted. Where there
+-- are many cells there are layers.
 pub record AreSpans (g : Terrain) (d : Distances) : Type 0 where
+  pub marks_fit : length (marks_of g d) ≡ length g.cells
   pub known_fit : length d.known ≡ g.height * stride g
   pub free_fit : length d.free.items ≡ g.height * stride g
   pub here_fit : length d.here.words.items ≡ g.height * stride g
   pub next_fit : length d.next.words.items ≡ g.height * stride g
-  pub layers_fit : length d.layers.newest.items ≡ g.height * stride g
   pub free_only : (s : Span) (w i : ℕ) → IsSpan g s → slice_get d.known s.number ≡ Some 1 → slice_get d.free.items s.number ≡ Some w → IsSet w i → i < 64
       → (c : Cell) × IsCellAt g s i c × IsFree g (marks_of g d) c
   pub free_all : (s : Span) (w i : ℕ) (c : Cell) → IsSpan g s → slice_get d.known s.number ≡ Some 1 → slice_get d.free.items s.number ≡ Some w → IsCellAt g s i c → IsFree g (marks_of g d) c → IsSet w i
-  pub falling : AreFalling d.layers.older.items
-  pub linked : (n : ℕ) → slice_get d.known n ≡ Some 1 → IsLinked d.layers n
-  pub few : length d.layers.older.items + uncounted (marks_of g d) ≤ length g.cells
+  pub looked : (s : Span) (i k : ℕ) (c : Cell) → IsSpan g s → IsCellAt g s i c → IsCounted (marks_of g d) c k → slice_get d.known s.number ≡ Some 1
+  pub layered : d.few ≡ false → AreLayers g d.known d.layers (marks_of g d)
   pub here_listed : AreListed g d.known d.here.words.items d.here.spans.items
   pub next_listed : AreListed g d.known d.next.words.items d.next.spans.items
 

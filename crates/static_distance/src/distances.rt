@@ -1,7 +1,8 @@
-ghost use Rattle.std.specs.Prelude.{◌≡◌, ◌≢◌, ℕ, ◌+◌, ◌*◌, ◌<◌, ◌≤◌, ◌↔◌, [], ◌∷◌, ◌++◌, length, Some, IfOk, OnOk, IfSome, IfNone, IsTrue, slice_get};
+ghost use Rattle.std.specs.Prelude.{◌≡◌, ◌≢◌, ℕ, false, ◌+◌, ◌*◌, ◌<◌, ◌≤◌, ◌↔◌, [], ◌∷◌, ◌++◌, length, min, Some, IfOk, OnOk, IfSome, IfNone, IsTrue, slice_get};
 ghost use Rattle.std.specs.Bool.{OnTrue, OnFalse};
 
 use crate::layers::Layers;
+use crate::marking::{FEW, mark_each};
 use crate::place::{Place, moves_between, place_of};
 use crate::span::{Span, cells_of, span_at, stride};
 use crate::waiting::Waiting;
@@ -19,12 +20,16 @@ pub struct Distances {
     alloc: Global,
     goal: Cell,
     toward: Place,
-    // How many cells the grids have.
+    // How many cells the grids have. Where they are few, 1 plus the moves of each cell that is counted, else 0: then a cell's
+    // moves are one read. Where they are many, there are no entries.
     cells: usize,
-    // By the number of a span: 1 where it was looked at since the last aim, and then its cells that are open and not counted,
-    // and the levels of those that are counted. A cell's moves are its level less the moves to `toward` if all cells were open.
+    few: bool,
+    by_cell: StampedList,
+    // By the number of a span: 1 where it was looked at since the last aim, and then its cells that are open and not counted.
     known: StampedList,
     free: Vec<u64>,
+    // Where there are many cells, the levels of those that are counted, which touch less memory: a cell's moves are its level less
+    // the moves to `toward` if all cells were open.
     layers: Layers,
     // The moves of the cells of `here` to the goal, and those to `toward` if all cells were open, add up to `level`;
     // those of `next` to `level + 2`. Cells may stand in them that were counted meanwhile.
@@ -34,10 +39,12 @@ pub struct Distances {
 }
 
 impl Distances {
-    ghost use Rattle.fleet_base.specs.Terrain.{Terrain, IsOpen};
+    ghost use Rattle.fleet_base.specs.Terrain.{Terrain, IsOpen, IsBeside};
     ghost use Rattle.fleet_base.specs.declared.grid.Cell.{Cell as ACell};
+    ghost use Rattle.fleet_base.specs.declared.grid.Side.{Side};
     ghost use Rattle.row_words.specs.Words.{IsSet};
     ghost use Rattle.fleet_base.specs.declared.grid.Side.TheVariants.{Up, Left, Right, Down};
+    ghost use Rattle.static_distance.specs.Distance.{IsDistance};
     ghost use Rattle.static_distance.specs.Levels.{IsPlaceOf, IsCounted, apart, uncounted};
     ghost use Rattle.static_distance.specs.Marks.{marks_of};
     ghost use Rattle.static_distance.specs.Spreading.{IsFlood};
@@ -49,11 +56,15 @@ impl Distances {
     pub fn new(alloc: Global, cells: usize) -> Result<Distances, Memory>
         ensures { IfOk result (λ d. room d ≡ cells) }
     {
+        let few = cells <= FEW;
+        let listed = if few { cells } else { 0 };
         Ok(Distances {
             alloc,
             goal: Cell(0),
             toward: Place { column: 0, row: 0 },
             cells,
+            few,
+            by_cell: StampedList::new(alloc, listed)?,
             known: StampedList::new(alloc, 0)?,
             free: Vec::new(alloc),
             layers: Layers::new(alloc, 0)?,
@@ -67,10 +78,13 @@ impl Distances {
     fn fit(&mut self, count: usize) -> Result<(), Memory>
         ensures fit { OnOk result (AreFitting count self.new) }
         ensures cells { self.new.cells ≡ self.old.cells }
+        ensures few { self.new.few ≡ self.old.few }
+        ensures listed { self.new.by_cell ≡ self.old.by_cell }
     {
+        let layered = if self.few { 0 } else { count };
         if self.known.len() == count
             && self.free.len() == count
-            && self.layers.len() == count
+            && self.layers.len() == layered
             && self.here.words.len() == count
             && self.next.words.len() == count
         {
@@ -78,7 +92,7 @@ impl Distances {
         }
         self.known = StampedList::new(self.alloc, count)?;
         self.free = vec![in self.alloc; 0; count]?;
-        self.layers = Layers::new(self.alloc, count)?;
+        self.layers = Layers::new(self.alloc, layered)?;
         self.here = Waiting::new(self.alloc, count)?;
         self.next = Waiting::new(self.alloc, count)?;
         Ok(())
@@ -100,6 +114,7 @@ impl Distances {
         self.goal = goal;
         self.toward = place_of(grid, toward);
         self.level = moves_between(place, self.toward);
+        self.by_cell.clear();
         self.layers.clear();
         self.known.clear();
         self.here.spans.clear();
@@ -144,10 +159,42 @@ impl Distances {
         if !grid.is_open(cell) {
             return Ok(None);
         }
-        if self.is_free(grid, cell, place) {
-            return self.count_to(grid, cell, place);
+        match self.moves_at(grid, cell, place) {
+            Some(moves) => Ok(Some(moves)),
+            None => self.count_to(grid, cell, place),
         }
-        Ok(Some(self.moves_of(grid, cell, place)))
+    }
+
+    /// The same for a cell beside one whose distance is known. It counts no farther than the level of that one.
+    #[inline(always)]
+    pub fn beside_at(
+        &mut self,
+        grid: &Grid,
+        cell: Cell,
+        place: Place,
+        from: Place,
+        left: u32,
+    ) -> Result<Option<u32>, Memory>
+        requires aimed { IsAimed grid.now self.old }
+        requires cell { cell.0 < length grid.now.cells }
+        requires place { IsPlaceOf grid.now cell place }
+        requires from { (c : ACell) × (side : Side) × IsPlaceOf grid.now c from × IsBeside grid.now side c cell × IsDistance grid.now self.old.goal c left }
+        ensures distance { IfOk result (AnswersDistance grid.now self.old.goal cell) }
+        ensures aimed { OnOk result (IsAimed grid.now self.new) }
+        ensures goal { self.new.goal ≡ self.old.goal }
+        ensures room { room self.new ≡ room self.old }
+    {
+        if !grid.is_open(cell) {
+            return Ok(None);
+        }
+        match self.moves_at(grid, cell, place) {
+            Some(moves) => Ok(Some(moves)),
+            None => {
+                let _limits = grid.cells();
+                let level = left.saturating_add(moves_between(from, self.toward));
+                self.count_beside(grid, cell, place, left, level)
+            }
+        }
     }
 
     // Counts moves until an open cell has them, and tells them.
@@ -166,7 +213,38 @@ impl Distances {
                 return Ok(None);
             }
         }
-        Ok(Some(self.moves_of(grid, cell, place)))
+        Ok(self.moves_at(grid, cell, place))
+    }
+
+    // Counts moves until an open cell has them, or until all cells on the level of one beside it have: with a move less than from there
+    // its level would be no greater, and with as many it can't be, since each move leads to a cell of the other colour, as on a chessboard.
+    fn count_beside(
+        &mut self,
+        grid: &Grid,
+        cell: Cell,
+        place: Place,
+        left: u32,
+        level: u32,
+    ) -> Result<Option<u32>, Memory>
+        requires aimed { IsAimed grid.now self.old }
+        requires cell { cell.0 < length grid.now.cells }
+        requires place { IsPlaceOf grid.now cell place }
+        requires opens { IsOpen grid.now cell }
+        requires from { (c : ACell) × (side : Side) × IsBeside grid.now side c cell × IsDistance grid.now self.old.goal c left × (level ≡ min (left + apart grid.now self.old.toward c) u32.MAX) }
+        ensures distance { IfOk result (AnswersDistance grid.now self.old.goal cell) }
+        ensures aimed { OnOk result (IsAimed grid.now self.new) }
+        ensures goal { self.new.goal ≡ self.old.goal }
+        ensures room { room self.new ≡ room self.old }
+    {
+        while self.is_free(grid, cell, place) {
+            if self.level > level || (self.level == level && self.here.spans.is_empty()) {
+                return Ok(Some(left + 1));
+            }
+            if !self.advance(grid)? {
+                return Ok(None);
+            }
+        }
+        Ok(self.moves_at(grid, cell, place))
     }
 
     /// Whether a way of so many moves leads from a cell to the goal, or of fewer. It counts no farther than that takes.
@@ -182,6 +260,9 @@ impl Distances {
             return Ok(false);
         }
         let place = place_of(grid, cell);
+        if let Some(counted) = self.moves_at(grid, cell, place) {
+            return Ok(counted <= moves);
+        }
         let last = moves.saturating_add(moves_between(place, self.toward));
         while self.is_free(grid, cell, place) {
             if self.level > last {
@@ -191,7 +272,10 @@ impl Distances {
                 return Ok(false);
             }
         }
-        Ok(self.moves_of(grid, cell, place) <= moves)
+        match self.moves_at(grid, cell, place) {
+            Some(counted) => Ok(counted <= moves),
+            None => Ok(false),
+        }
     }
 
     // Whether an open cell isn't counted yet. Its span's word says so at once, where its level may have to be looked for.
@@ -207,9 +291,33 @@ impl Distances {
         self.known.get(number) != 1 || is_set(self.free[number], place.column - span.column)
     }
 
-    // The moves of a cell that is counted.
+    // The moves of an open cell, or none where it isn't counted.
+    #[inline(always)]
+    fn moves_at(&self, grid: &Grid, cell: Cell, place: Place) -> Option<u32>
+        requires cell { IsOpen grid.now cell }
+        requires place { IsPlaceOf grid.now cell place }
+        requires near { (self.now.toward.column < 2048) × (self.now.toward.row < 2048) }
+        requires spans { AreSpans grid.now self.now }
+        ensures some { IfSome result (λ k. IsCounted (marks_of grid.now self.now) cell k) }
+        ensures none { IfNone result (slice_get (marks_of grid.now self.now) cell.0 ≡ Some 0) }
+    {
+        if self.few {
+            let mark = self.by_cell.get(cell.0 as usize);
+            if mark == 0 {
+                return None;
+            }
+            return Some(mark - 1);
+        }
+        if self.is_free(grid, cell, place) {
+            return None;
+        }
+        Some(self.moves_of(grid, cell, place))
+    }
+
+    // The moves of a cell that is counted, where there are many.
     #[inline(always)]
     fn moves_of(&self, grid: &Grid, cell: Cell, place: Place) -> u32
+        requires many { self.now.few ≡ false }
         requires cell { IsOpen grid.now cell }
         requires place { IsPlaceOf grid.now cell place }
         requires near { (self.now.toward.column < 2048) × (self.now.toward.row < 2048) }
@@ -273,10 +381,21 @@ impl Distances {
         ensures aim { KeepsAim self.old self.new }
         ensures looked { HasLooked grid.now span self.old self.new }
     {
-        let number = span.number as usize;
-        if self.known.get(number) == 1 {
-            return;
+        if self.known.get(span.number as usize) != 1 {
+            self.look_first(grid, span);
         }
+    }
+
+    // Looks at the cells of a span for the first time. It is a function of its own so that `look_at` is short where it is called.
+    #[inline(never)]
+    fn look_first(&mut self, grid: &Grid, span: Span)
+        requires span { IsSpan grid.now span }
+        requires spans { AreSpans grid.now self.old }
+        requires first { slice_get self.old.known span.number ≢ Some 1 }
+        ensures aim { KeepsAim self.old self.new }
+        ensures looked { HasLooked grid.now span self.old self.new }
+    {
+        let number = span.number as usize;
         self.free[number] = open_places(cells_of(grid, span));
         self.layers.begin(number);
         self.here.words[number] = 0;
@@ -376,8 +495,19 @@ impl Distances {
     {
         let _limits = grid.cells();
         let number = span.number as usize;
-        self.layers.add(number, word, self.level)?;
         self.free[number] = without(self.free[number], word);
+        if !self.few {
+            return self.layers.add(number, word, self.level);
+        }
+        let reach = self.level - span.row.abs_diff(self.toward.row);
+        mark_each(
+            &mut self.by_cell,
+            grid.width() * span.row + span.column,
+            word,
+            span.column,
+            self.toward.column,
+            reach,
+        );
         Ok(())
     }
 

@@ -54,14 +54,15 @@ impl Layers {
         self.older.clear();
     }
 
-    // Begins a span: no cell of it is counted.
+    // Begins a span: no cell of it is counted. It does nothing where there are no spans.
     #[inline(always)]
     pub(crate) fn begin(&mut self, number: usize)
-        requires { number < length self.old.newest.items }
         ensures newest { self.new.newest.items ≡ slice_set self.old.newest.items number no_layer }
         ensures older { self.new.older ≡ self.old.older }
     {
-        self.newest[number] = NONE;
+        if number < self.newest.len() {
+            self.newest[number] = NONE;
+        }
     }
 
     // The level of a cell that is counted, by its span and its place there. Most are in the newest layer.

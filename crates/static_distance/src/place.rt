@@ -60,22 +60,15 @@ pub fn neighbour_at(grid: &Grid, cell: Cell, place: Place, side: Side) -> Option
 pub fn beside(place: Place, side: Side) -> Place
     ensures { (g : Terrain) (c n : ACell) → n.0 < 2 ^ 32 → IsPlaceOf g c place → IsBeside g side c n → IsPlaceOf g n result }
 {
-    match side {
-        Side::Up => Place {
-            column: place.column,
-            row: place.row.saturating_sub(1),
-        },
-        Side::Left => Place {
-            column: place.column.saturating_sub(1),
-            row: place.row,
-        },
-        Side::Right => Place {
-            column: place.column.saturating_add(1),
-            row: place.row,
-        },
-        Side::Down => Place {
-            column: place.column,
-            row: place.row.saturating_add(1),
-        },
+    // Without branches: a walk turns too often for them to be foreseen.
+    Place {
+        column: place
+            .column
+            .saturating_sub(u32::from(side == Side::Left))
+            .saturating_add(u32::from(side == Side::Right)),
+        row: place
+            .row
+            .saturating_sub(u32::from(side == Side::Up))
+            .saturating_add(u32::from(side == Side::Down)),
     }
 }

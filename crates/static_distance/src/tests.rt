@@ -118,6 +118,98 @@ fn tells_a_cell_beside(rt: HostRuntime) {
     assert_eq!(rt; moves, Some(5));
 }
 
+// Whether along a path from a cell the distances to a goal are the same told for each cell beside the one before and told alone.
+// They are counted toward a third cell for the first.
+fn are_same_along(
+    near: &mut Distances,
+    alone: &mut Distances,
+    grid: &Grid,
+    cells: (u32, u32, u32),
+    path: &[Side],
+) -> Result<bool, Memory>
+    requires room { (room near.old ≡ length grid.now.cells) × (room alone.old ≡ length grid.now.cells) }
+    requires cells { (cells.0 < length grid.now.cells) × (cells.1 < length grid.now.cells) × (cells.2 < length grid.now.cells) }
+    ensures near { room near.new ≡ room near.old }
+    ensures alone { room alone.new ≡ room alone.old }
+{
+    let goal = Cell(cells.1);
+    near.aim(grid, goal, Cell(cells.2))?;
+    alone.aim(grid, goal, goal)?;
+    let mut cell = Cell(cells.0);
+    let mut place = place_of(grid, cell);
+    let Some(mut left) = alone.to_goal(grid, cell)? else {
+        return Ok(false);
+    };
+    for side in path {
+        let Some(to) = neighbour_at(grid, cell, place, *side) else {
+            return Ok(false);
+        };
+        let there = beside(place, *side);
+        let Some(moves) = near.beside_at(grid, to, there, place, left)? else {
+            return Ok(false);
+        };
+        if alone.to_goal(grid, to)? != Some(moves) {
+            return Ok(false);
+        }
+        cell = to;
+        place = there;
+        left = moves;
+    }
+    Ok(true)
+}
+
+// Round the wall, out from the goal and back to it, each time with nothing counted before.
+#[test]
+fn tells_cells_along_a_path(rt: HostRuntime) {
+    let grid = wall(rt.alloc()).expect(&rt, "memory");
+    let mut near = Distances::new(rt.alloc(), 9).expect(&rt, "memory");
+    let mut alone = Distances::new(rt.alloc(), 9).expect(&rt, "memory");
+    let out = [
+        Side::Down,
+        Side::Down,
+        Side::Left,
+        Side::Left,
+        Side::Up,
+        Side::Up,
+    ];
+    let far = are_same_along(&mut near, &mut alone, &grid, (2, 2, 0), &out).expect(&rt, "memory");
+    assert!(rt; far);
+    let back = [
+        Side::Down,
+        Side::Down,
+        Side::Right,
+        Side::Right,
+        Side::Up,
+        Side::Up,
+    ];
+    let home = are_same_along(&mut near, &mut alone, &grid, (0, 2, 2), &back).expect(&rt, "memory");
+    assert!(rt; home);
+}
+
+// The same round the wall at the seam of the long rows, and past the goal.
+#[test]
+fn tells_cells_over_a_seam(rt: HostRuntime) {
+    let grid = long_rows(rt.alloc()).expect(&rt, "memory");
+    let mut near = Distances::new(rt.alloc(), 260).expect(&rt, "memory");
+    let mut alone = Distances::new(rt.alloc(), 260).expect(&rt, "memory");
+    let round = [
+        Side::Down,
+        Side::Right,
+        Side::Right,
+        Side::Up,
+        Side::Right,
+        Side::Right,
+    ];
+    let past = are_same_along(&mut near, &mut alone, &grid, (62, 64, 129), &round).expect(
+        &rt, "memory",
+    );
+    assert!(rt; past);
+    let out = are_same_along(&mut near, &mut alone, &grid, (62, 62, 129), &round).expect(
+        &rt, "memory",
+    );
+    assert!(rt; out);
+}
+
 // Seven columns and two rows; in the upper row each second cell is closed.
 fn comb(alloc: Global) -> Result<Grid, AllocError>
     ensures { IfOk result (λ g. length g.cells ≡ 14) }

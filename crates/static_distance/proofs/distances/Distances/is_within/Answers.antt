@@ -1,4 +1,4 @@
-use Rattle.std.proofs.Common.{arith, subst, sym, ◌∙◌, ◌+◌, ◌≤◌}
+use Rattle.std.proofs.Common.{arith, subst, sym, ◌+◌, ◌≤◌}
 use Rattle.std.proofs.lemmas.Bool.{false≢true, leb-true, le-leb}
 use Rattle.fleet_base.specs.declared.grid.Cell.{Cell}
 use Rattle.static_distance.specs.declared.place.Place.{Place}
@@ -38,16 +38,23 @@ returns-then-not-branch-clause-within c = (
       (subst (λ (z : Cell). IsWay g z c.args.cell within.0) (sym c.loop-cell.invariant.goal) within.1))),
 )
 
-pub moves_of-requires-clause-counted : goal.moves_of-requires-clause-counted
-moves_of-requires-clause-counted c = λ free. false≢true (sym c.loop-cell-test.false ∙ c.is_free.ensures.1 free)
+pub returns-in-Some-clause-within : goal.returns-in-Some-clause-within
+returns-in-Some-clause-within c =
+    let g = c.args.grid.now in
+    let d = c.args.self.now in
+    let moves = c.in-Some.counted in
+    let distance : IsDistance g d.goal c.args.cell moves = flood_distance g (flood_of g d) c.requires.aimed.flood c.args.cell moves c.in-Some.ensures.some in (
+      (λ yes. within_near distance (leb-true moves c.args.moves yes)),
+      (λ within. le-leb moves c.args.moves (near_within distance within)),
+    )
 
-pub returns-clause-within : goal.returns-clause-within
-returns-clause-within c =
+pub returns-in-Some-moves_at-clause-within : goal.returns-in-Some-moves_at-clause-within
+returns-in-Some-moves_at-clause-within c =
     let g = c.args.grid.now in
     let d = c.loop-cell.self in
-    let moves = c.moves_of.result in
+    let moves = c.in-Some-moves_at.counted in
     let distance : IsDistance g c.args.self.now.goal c.args.cell moves = subst (λ (z : Cell). IsDistance g z c.args.cell moves) c.loop-cell.invariant.goal
-    (flood_distance g (flood_of g d) c.loop-cell.invariant.aimed.flood c.args.cell moves c.moves_of.ensures) in (
+    (flood_distance g (flood_of g d) c.loop-cell.invariant.aimed.flood c.args.cell moves c.in-Some-moves_at.ensures.some) in (
       (λ yes. within_near distance (leb-true moves c.args.moves yes)),
       (λ within. le-leb moves c.args.moves (near_within distance within)),
     )

@@ -1,5 +1,5 @@
 use Rattle.std.proofs.Common.{◌≡◌}
-use Rattle.static_distance.specs.Aim.{work, IsAimed}
+use Rattle.static_distance.specs.Aim.{room, work, IsAimed}
 use Rattle.static_distance.proofs.distances.Distances.is_within.Given as goal
 
 abbrev pub invariant-loop-cell : goal.invariant-loop-cell
@@ -7,7 +7,7 @@ invariant-loop-cell l = record {
   aimed : IsAimed l.grid l.self;
   goal : l.self.goal ≡ l.initial.self.goal;
   toward : l.self.toward ≡ l.initial.self.toward;
-  room : l.self.cells ≡ l.initial.self.cells;
+  room : room l.self ≡ room l.initial.self;
 }
 
 abbrev pub decreases-loop-cell : goal.decreases-loop-cell

@@ -9,20 +9,20 @@ use Rattle.static_distance.proofs.distances.Distances.moves_of.Goals as goal
 
 pub level_at-level-requires-clause-inside : goal.level_at-level-requires-clause-inside
 level_at-level-requires-clause-inside c = (
-  omega (arith, c.requires.spans.layers_fit, span_inside c.args.grid.now c.span_at-span.result c.span_at-span.ensures.span),
+  omega (arith, (c.requires.spans.layered c.requires.many).fit, span_inside c.args.grid.now c.span_at-span.result c.span_at-span.ensures.span),
   c.span_at-span.ensures.held.0,
 )
 
 pub level_at-level-requires-clause-linked : goal.level_at-level-requires-clause-linked
 level_at-level-requires-clause-linked c =
     let s = c.span_at-span.result in
-    c.requires.spans.linked s.number
-    (counted_span c.args.grid.now c.args.self.now s (c.args.place.column - s.column) c.args.cell c.span_at-span.ensures.span c.span_at-span.ensures.held c.requires.cell c.requires.counted)
+    (c.requires.spans.layered c.requires.many).linked s.number
+    (counted_span c.args.grid.now c.args.self.now s (c.args.place.column - s.column) c.args.cell c.requires.spans c.span_at-span.ensures.span c.span_at-span.ensures.held c.requires.cell c.requires.many c.requires.counted)
 
 pub level_at-level-requires-clause-counted : goal.level_at-level-requires-clause-counted
 level_at-level-requires-clause-counted c =
     let s = c.span_at-span.result in
-    counted_level c.args.grid.now c.args.self.now s (c.args.place.column - s.column) c.args.cell c.span_at-span.ensures.span c.span_at-span.ensures.held c.requires.cell c.requires.counted
+    counted_level c.args.grid.now c.args.self.now s (c.args.place.column - s.column) c.args.cell c.requires.spans c.span_at-span.ensures.span c.span_at-span.ensures.held c.requires.cell c.requires.many c.requires.counted
 
 pub moves_between-requires-clause-from : goal.moves_between-requires-clause-from
 moves_between-requires-clause-from c =
@@ -43,4 +43,7 @@ returns c =
     ∙ ap (λ (n : ℕ). gap (c.args.cell.0 % g.width) toward.column + gap n toward.row) c.requires.place.1) in
     let moves : c.level_at-level.result - apart g toward c.args.cell ≡ c.saturating_sub.result = ap (λ (n : ℕ). c.level_at-level.result - n) (sym away) ∙ sym c.saturating_sub.ensures in
     subst (λ (k : ℕ). IsCounted (marks_of g d) c.args.cell k) moves
-    (counted_moves g d s (c.args.place.column - s.column) c.args.cell c.span_at-span.ensures.span c.span_at-span.ensures.held c.requires.cell c.requires.counted c.level_at-level.result c.level_at-level.ensures)
+    (counted_moves g d s (c.args.place.column - s.column) c.args.cell c.requires.spans c.span_at-span.ensures.span c.span_at-span.ensures.held c.requires.cell c.requires.many c.requires.counted c.level_at-level.result c.level_at-level.ensures)
+
+pub level_at-level-requires-clause-falling : goal.level_at-level-requires-clause-falling
+level_at-level-requires-clause-falling c = (c.requires.spans.layered c.requires.many).falling

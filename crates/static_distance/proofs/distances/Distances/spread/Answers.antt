@@ -77,3 +77,4 @@ returns-clause-flood c =
     c.in_ok-spread_up.ensures.spread c.in_ok-spread_down.ensures.spread
     (spread_row g c.args.span c.filled-batch.result c.spread_down.new.self c.spread_within.new.self c.spread_left.new.self c.spread_right.new.self
     c.in_ok-spread_within.ensures.spread c.in_ok-spread_left.ensures.spread c.in_ok-spread_right.ensures.spread)
+    c.in_ok-count.ensures.spans.marks_fit
