@@ -32,11 +32,6 @@ pub no_items : {X : Type 0} (xs : List X) → length xs ≡ 0 → xs ≡ []
 no_items [] none = refl
 no_items (x ∷ xs) none = absurd (omega arith)
 
--- a mark that isn't 0 counts moves
-pub counted_by : (marks : List ℕ) (c : Cell) (m : ℕ) → slice_get marks c.0 ≡ Some m → m ≢ 0 → (k : ℕ) × IsCounted marks c k
-counted_by marks c zero at ne = absurd (ne refl)
-counted_by marks c (suc k) at ne = (k, at)
-
 -- a word that has a cell isn't 0
 pub held_word : (g : Terrain) (s : Span) (word : ℕ) (c : Cell) → Holds g s word c → word ≢ 0
 held_word g s word c (i, set, at) zero_word = is_empty word zero_word i set

@@ -57,12 +57,12 @@ unknown_mark zero level moves unknown = refl
 unknown_mark (suc zero) level moves unknown = absurd (unknown refl)
 unknown_mark (suc (suc more)) level moves unknown = refl
 
--- one that has a mark is of a span that is known, and on a level
-known_mark : (known level moves : ℕ) → mark_of known level moves ≢ 0 → (known ≡ 1) × (level ≢ 0)
-known_mark (suc zero) (suc level) moves some = (refl, λ e. omega arith)
-known_mark (suc zero) zero moves some = absurd (some refl)
-known_mark zero level moves some = absurd (some refl)
-known_mark (suc (suc more)) level moves some = absurd (some refl)
+-- one that has a mark is on a level
+level_of_mark : (known level moves : ℕ) → mark_of known level moves ≢ 0 → level ≢ 0
+level_of_mark (suc zero) (suc level) moves some = λ e. omega arith
+level_of_mark (suc zero) zero moves some = absurd (some refl)
+level_of_mark zero level moves some = absurd (some refl)
+level_of_mark (suc (suc more)) level moves some = absurd (some refl)
 
 -- where a number is read that isn't 0 it stands in the list
 read_known : (known : List ℕ) (n : ℕ) → get_or known n 0 ≡ 1 → slice_get known n ≡ Some 1
@@ -165,21 +165,15 @@ module _ (g : Terrain) (s : Span) (is : IsSpan g s) where
         let one : get_or known s.number 0 ≡ 1 = get_or_from_slice_get known s.number 1 0 known_is in
         mark_read g toward known layers c.0 inside ∙ ap Some (mark_there ∙ ap (λ (k : ℕ). mark_of k (told layers s.number i) (apart g toward c)) one)
 
-    -- a counted cell is in a span that is known, and on a level
+    -- a counted cell is on a level
     module _ (k : ℕ) (counted : IsCounted (marks_in g toward known layers) c k) where
       has_mark : mark_of (get_or known s.number 0) (told layers s.number i) (apart g toward c) ≡ suc k
       has_mark =
           let inside : c.0 < length g.cells = subst (λ (n : ℕ). c.0 < n) (marks_count g toward known layers) (slice_get_within (marks_in g toward known layers) c.0 (suc k) counted) in
           sym mark_there ∙ same_Some (mark_at g toward known layers c.0) (suc k) (sym (mark_read g toward known layers c.0 inside) ∙ counted)
 
-      has_both : (get_or known s.number 0 ≡ 1) × (told layers s.number i ≢ 0)
-      has_both = known_mark (get_or known s.number 0) (told layers s.number i) (apart g toward c) (λ none. (let bad : suc k ≡ 0 = sym has_mark ∙ none in omega arith))
-
-      pub counted_known : slice_get known s.number ≡ Some 1
-      counted_known = read_known known s.number has_both.0
-
       pub counted_told : told layers s.number i ≢ 0
-      counted_told = has_both.1
+      counted_told = level_of_mark (get_or known s.number 0) (told layers s.number i) (apart g toward c) (λ none. (let bad : suc k ≡ 0 = sym has_mark ∙ none in omega arith))
 
 -- ---- a span is begun that wasn't known
 

@@ -20,15 +20,15 @@ pub struct Distances {
     alloc: Global,
     goal: Cell,
     toward: Place,
-    // How many cells the grids have. Where they are few, 1 plus the moves of each cell that is counted, else 0: then a cell's
-    // moves are one read. Where they are many, there are no entries.
+    // How many cells the grids have. Where these are few a list has 1 plus the moves of each that is counted, else 0, so that
+    // they are one read.
     cells: usize,
     few: bool,
     by_cell: StampedList,
     // By the number of a span: 1 where it was looked at since the last aim, and then its cells that are open and not counted.
     known: StampedList,
     free: Vec<u64>,
-    // Where there are many cells, the levels of those that are counted, which touch less memory: a cell's moves are its level less
+    // Where there are many cells the levels of those that are counted, which touch less memory. A cell's moves are its level less
     // the moves to `toward` if all cells were open.
     layers: Layers,
     // The moves of the cells of `here` to the goal, and those to `toward` if all cells were open, add up to `level`;

@@ -236,3 +236,29 @@ fn tells_all_levels_of_a_span(rt: HostRuntime) {
     let back = two(&mut distances, &grid, 6, 6, (0, 4)).expect(&rt, "memory");
     assert_eq!(rt; back, (Some(8), Some(4)));
 }
+
+// So many cells that layers have their levels: 2,000 columns and 17 rows; the upper row begins as the one of seven columns.
+fn long_comb(alloc: Global) -> Result<Grid, AllocError>
+    ensures { IfOk result (λ g. length g.cells ≡ 34000) }
+{
+    let mut cells = vec![in alloc; true; 34000]?;
+    cells[1] = false;
+    cells[3] = false;
+    cells[5] = false;
+    Ok(Grid::new(2000, 17, cells))
+}
+
+// Counted by hand: the same, and the distances of the last cells of the first row and of the last one.
+#[test]
+fn tells_all_levels_of_many_cells(rt: HostRuntime) {
+    let grid = long_comb(rt.alloc()).expect(&rt, "memory");
+    let mut distances = Distances::new(rt.alloc(), 34000).expect(&rt, "memory");
+    let second = two(&mut distances, &grid, 0, 0, (6, 2)).expect(&rt, "memory");
+    assert_eq!(rt; second, (Some(8), Some(4)));
+    let far = two(&mut distances, &grid, 0, 33999, (1999, 33999)).expect(&rt, "memory");
+    assert_eq!(rt; far, (Some(2001), Some(2015)));
+    let closed = two(&mut distances, &grid, 6, 6, (3, 4)).expect(&rt, "memory");
+    assert_eq!(rt; closed, (None, Some(4)));
+    let back = two(&mut distances, &grid, 33999, 0, (0, 4)).expect(&rt, "memory");
+    assert_eq!(rt; back, (Some(2015), Some(2011)));
+}
