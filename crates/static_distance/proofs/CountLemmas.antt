@@ -13,7 +13,7 @@ use Rattle.static_distance.specs.declared.distances.Distances.{Distances}
 use Rattle.static_distance.specs.declared.layers.Layers.{Layers}
 use Rattle.static_distance.specs.declared.span.Span.{Span}
 use Rattle.static_distance.specs.Levels.{IsCounted, gap, apart, uncounted}
-use Rattle.static_distance.specs.Layers.{IsLinked, told, HasLayer}
+use Rattle.static_distance.specs.Layers.{told, HasLayer}
 use Rattle.static_distance.specs.Marks.{span_number, span_place, mark_of, marks_in, marks_of}
 use Rattle.static_distance.specs.Spans.{IsSpan, IsCellAt, Holds, IsFree, AreLayers, AreSpans, HasCounted}
 use Rattle.static_distance.proofs.Places.{apart_at}

@@ -16,7 +16,7 @@ use Rattle.static_distance.specs.declared.waiting.Waiting.{Waiting}
 use Rattle.static_distance.specs.declared.distances.Distances.{Distances}
 use Rattle.static_distance.specs.declared.layers.Layer.{Layer}
 use Rattle.static_distance.specs.declared.place.Place.{Place}
-use Rattle.static_distance.specs.Levels.{IsCounted, uncounted}
+use Rattle.static_distance.specs.Levels.{IsCounted}
 use Rattle.static_distance.specs.Layers.{no_layer, newest_of, AreFalling, IsLinked}
 use Rattle.static_distance.specs.Marks.{stride, marks_in, marks_of}
 use Rattle.static_distance.specs.Waiting.{IsListed, HasAdded}

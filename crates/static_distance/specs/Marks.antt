@@ -1,6 +1,5 @@
 -- The marks of all cells: with few cells as a list has them, with many as the layers of their spans tell them.
-use Rattle.std.specs.Prelude.{◌≡◌, ℕ, zero, suc, ◌+◌, ◌-◌, ◌*◌, ◌/◌, ◌%◌, Bool, true, false, List, [], ◌∷◌, length, get_or}
-use Rattle.fleet_base.specs.declared.grid.Cell.{Cell}
+use Rattle.std.specs.Prelude.{ℕ, zero, suc, ◌+◌, ◌-◌, ◌*◌, ◌/◌, ◌%◌, Bool, true, false, List, [], ◌∷◌, length, get_or}
 use Rattle.fleet_base.specs.Terrain.{Terrain}
 use Rattle.static_distance.specs.declared.place.Place.{Place}
 use Rattle.static_distance.specs.declared.layers.Layers.{Layers}

@@ -1,11 +1,9 @@
 use Rattle.std.proofs.Common.{◌≡◌, suc, ◌∷◌, ◌++◌, [], length, refl, sym, ap, ◌∙◌, arith}
 use Rattle.std.specs.Vec.{with_item}
 use Rattle.std.proofs.lemmas.Option.{slice_get_read, get_or_from_slice_get}
-use Rattle.row_words.proofs.WordLemmas.{is_empty}
 use Rattle.static_distance.specs.declared.layers.Layer.{Layer}
-use Rattle.static_distance.specs.declared.layers.Layers.{Layers}
 use Rattle.static_distance.specs.Layers.{no_layer, newest_of}
-use Rattle.static_distance.proofs.LayerLemmas.{joins_layer, adds_layer}
+use Rattle.static_distance.proofs.LayerLemmas.{adds_layer}
 use Rattle.static_distance.proofs.layers.Layers.add.Goals as goal
 
 pub returns : goal.returns
