@@ -1,11 +1,11 @@
 -- The layers of a span: what they tell of a place, and what one word more changes of it.
-use Rattle.std.proofs.Common.{◌≡◌, ◌≢◌, ℕ, zero, suc, ◌+◌, ◌<◌, ◌≤◌, ◌⊎◌, ◌↔◌, inl, inr, List, [], ◌∷◌, ◌++◌, length, get_or, refl, sym, ap, subst, ◌∙◌, arith, set}
+use Rattle.std.proofs.Common.{◌≡◌, ◌≢◌, ℕ, zero, suc, ◌+◌, ◌<◌, ◌≤◌, inl, inr, List, [], ◌∷◌, ◌++◌, length, get_or, refl, sym, ap, subst, ◌∙◌, arith, set}
 use Rattle.std.specs.Int.{bit_at}
 use Rattle.std.proofs.lemmas.Bool.{cases_eq, cases_lt}
 use Rattle.std.proofs.lemmas.List.{get_or_append_left, get_or_push, get_or_past, get_or-set_same, get_or-set_other, length-append, length-set}
 use Rattle.std.proofs.lemmas.Nat.Bits.{bit_at-lt}
 use Rattle.row_words.specs.Words.{IsSet}
-use Rattle.row_words.proofs.WordLemmas.{set_or_not, is_empty}
+use Rattle.row_words.proofs.WordLemmas.{is_empty}
 use Rattle.static_distance.specs.declared.layers.Layer.{Layer}
 use Rattle.static_distance.specs.declared.layers.Layers.{Layers}
 use Rattle.static_distance.specs.Layers.{choose, or_else, no_layer, older_told, told_from, newest_of, told, AreFalling, IsLinked, HasLayer}
@@ -24,23 +24,6 @@ lacks_told layer place other clear =
 -- a span that is begun tells nothing
 pub none_told : (older : List Layer) (place : ℕ) → told_from older no_layer place ≡ 0
 none_told older place = lacks_told no_layer place 0 (is_empty 0 refl place)
-
--- The cells of two words on one level. The layer has cells on that level alone.
-module _ (older : List Layer) (layer : Layer) (word joined level : ℕ) (words : (i : ℕ) → IsSet joined i ↔ (IsSet layer.word i ⊎ IsSet word i))
-    (alike : (i : ℕ) → IsSet layer.word i → layer.level ≡ level) where
-  abbrev both : Layer
-  both = record { word = joined; level = level; older = layer.older }
-
-  pub joined_mine : (place : ℕ) → IsSet word place → told_from older both place ≡ suc level
-  joined_mine place set = has_told both place (older_told older layer.older layer.older place) ((words place).1 (inr set))
-
-  pub joined_others : (place : ℕ) → ¬ (IsSet word place) → told_from older both place ≡ told_from older layer place
-  joined_others place out =
-      let rest : ℕ = older_told older layer.older layer.older place in
-      elim (set_or_not layer.word place) [
-        | inl set ↦ has_told both place rest ((words place).1 (inl set)) ∙ (ap suc (sym (alike place set)) ∙ sym (has_told layer place rest set))
-        | inr clear ↦ lacks_told both place rest (λ set. elim ((words place).0 set) [ inl first ↦ clear first | inr second ↦ out second ]) ∙ sym (lacks_told layer place rest clear)
-      ]
 
 -- ---- older layers
 
@@ -133,29 +116,6 @@ module _ (old new : Layers) (number : ℕ) (layer : Layer) (inside : number < le
       | inl same ↦ subst (λ (z : Layer). z.older ≤ length new.older.items) (sym (ap (newest_of new) same ∙ newest_here)) leads
       | inr other ↦ subst (λ (z : Layer). z.older ≤ length new.older.items) (sym (newest_there n other)) (omega arith)
     ]
-
-  -- it has the word's cells beside those that it had
-  pub joins_layer : (word level joined : ℕ) → IsLinked old number → AreFalling old.older.items → new.older ≡ old.older
-      → layer ≡ record { word = joined; level = level; older = (newest_of old number).older }
-      → ((i : ℕ) → IsSet joined i ↔ (IsSet (newest_of old number).word i ⊎ IsSet word i)) → ((i : ℕ) → IsSet (newest_of old number).word i → (newest_of old number).level ≡ level)
-      → HasLayer number word level old new
-  joins_layer word level joined linked falling older_is layer_is words alike =
-      let before : Layer = newest_of old number in
-      let now : Layer = record { word = joined; level = level; older = before.older } in
-      let items : new.older.items ≡ old.older.items = ap (λ (v : _). v.items) older_is in
-      let here : (place : ℕ) → told new number place ≡ told_from old.older.items now place = λ place.
-          told_here place ∙ (ap (λ (z : Layer). told_from new.older.items z place) layer_is ∙ ap (λ (xs : List Layer). told_from xs now place) items) in
-      let count : length new.older.items ≡ length old.older.items = ap length items in
-      let leads : layer.older ≤ length new.older.items = subst (λ (z : Layer). z.older ≤ length new.older.items) (sym layer_is) (omega (arith, count)) in
-      record {
-        mine = λ place set. here place ∙ joined_mine old.older.items before word joined level words alike place set;
-        others = λ place out. here place ∙ joined_others old.older.items before word joined level words alike place out;
-        elsewhere = λ n place other was. ap (λ (z : Layer). told_from new.older.items z place) (newest_there n other) ∙ ap (λ (xs : List Layer). told_from xs (newest_of old n) place) items;
-        linked = linked_still linked (omega (arith, count)) leads;
-        falling = subst AreFalling (sym items) falling;
-        count = newest_count;
-        few = omega (arith, count);
-      }
 
   -- it goes to the older ones, and the word's layer leads to it
   pub adds_layer : (word level from : ℕ) → IsLinked old number → AreFalling old.older.items → new.older.items ≡ old.older.items ++ newest_of old number ∷ []
