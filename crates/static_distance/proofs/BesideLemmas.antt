@@ -11,6 +11,7 @@ use Rattle.static_distance.specs.declared.place.Place.{Place}
 use Rattle.static_distance.specs.declared.distances.Distances.{Distances}
 use Rattle.static_distance.specs.Distance.{IsWay, there, move, IsDistance}
 use Rattle.static_distance.specs.Levels.{IsPlaceOf, between, apart}
+use Rattle.static_distance.specs.Marks.{marks_of}
 use Rattle.static_distance.specs.Spreading.{Flood, IsFlood}
 use Rattle.static_distance.specs.Spans.{IsStep, flood_of}
 use Rattle.static_distance.specs.Aim.{IsAimed}
@@ -99,7 +100,7 @@ HasPassed d level = (level < d.level) ⊎ ((d.level ≡ level) × (d.here.spans.
 
 module _ (g : Terrain) (d : Distances) (level : ℕ) (aimed : IsAimed g d) (passed : HasPassed d level) where
   -- a cell that isn't counted lies on a later level
-  passed_far : (c : Cell) → slice_get d.marks c.0 ≡ Some 0 → (k : ℕ) → IsWay g d.goal c k → level < k + apart g d.toward c
+  passed_far : (c : Cell) → slice_get (marks_of g d) c.0 ≡ Some 0 → (k : ℕ) → IsWay g d.goal c k → level < k + apart g d.toward c
   passed_far c free k way = elim passed [
     | inl less ↦ (let far : d.level ≤ k + apart g d.toward c = flood_far g (flood_of g d) aimed.flood c free k way in omega arith)
     | inr (same, empty) ↦
@@ -120,7 +121,7 @@ module _ (g : Terrain) (d : Distances) (level : ℕ) (aimed : IsAimed g d) (pass
     level_whole = omega (arith, passed_low)
 
     -- a cell beside it that isn't counted yet is one farther
-    pub passed_beside : (n : Cell) (side : Side) → IsBeside g side c n → IsDistance g d.goal c left → IsOpen g n → slice_get d.marks n.0 ≡ Some 0 → IsDistance g d.goal n (left + 1)
+    pub passed_beside : (n : Cell) (side : Side) → IsBeside g side c n → IsDistance g d.goal c left → IsOpen g n → slice_get (marks_of g d) n.0 ≡ Some 0 → IsDistance g d.goal n (left + 1)
     passed_beside n side beside distance opened free =
         one_more g d.goal c n side left beside distance opened
         (λ k way less. (let far : level < k + apart g d.toward n = passed_far n free k way in

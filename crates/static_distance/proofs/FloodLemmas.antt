@@ -1,5 +1,5 @@
 -- The flood by spans: what waits where no span is listed, the rise of the level, the beginning, and what one spread makes of it.
-use Rattle.std.proofs.Common.{◌≡◌, ◌≢◌, ℕ, zero, suc, ◌+◌, ◌<◌, ◌≤◌, ◌⊎◌, inl, inr, List, [], ◌∷◌, length, Some, true, false, refl, sym, ap, subst, ◌∙◌, arith}
+use Rattle.std.proofs.Common.{◌≡◌, ◌≢◌, ℕ, zero, suc, ◌+◌, ◌-◌, ◌<◌, ◌≤◌, ◌⊎◌, inl, inr, List, [], ◌∷◌, length, Some, true, false, refl, sym, ap, subst, ◌∙◌, arith}
 use Rattle.std.specs.Prelude.{slice_get, ◌↔◌}
 use Rattle.std.proofs.lemmas.Option.{slice_get_within, same_Some, none-some}
 use Rattle.fleet_base.specs.declared.grid.Cell.{Cell}
@@ -16,23 +16,21 @@ use Rattle.static_distance.specs.declared.place.Place.{Place}
 use Rattle.static_distance.specs.declared.waiting.Waiting.{Waiting}
 use Rattle.static_distance.specs.declared.distances.Distances.{Distances}
 use Rattle.static_distance.specs.Levels.{IsCounted, apart}
+use Rattle.static_distance.specs.Layers.{told}
+use Rattle.static_distance.specs.Marks.{mark_of, marks_in, marks_of}
 use Rattle.static_distance.specs.Waiting.{IsListed}
 use Rattle.static_distance.specs.Spreading.{Flood, WaitsWell, IsFlood, HasCount, HasSpread}
 use Rattle.static_distance.specs.Spans.{IsSpan, IsCellAt, Holds, Stands, AreListed, IsFree, AreSpans, flood_of, flood_with, IsStep, IsLed, HasSpreadTo, IsShut, HasCounted}
 use Rattle.static_distance.specs.Rows.{HasMore, IsLedInRow}
 use Rattle.static_distance.proofs.Ways.{way_open}
 use Rattle.static_distance.proofs.Places.{column_at, apart_at}
+use Rattle.static_distance.proofs.MarkLemmas.{many_marks, counted_told, told_mark}
 use Rattle.static_distance.proofs.RowLemmas.{row_left, row_right}
 use Rattle.static_distance.proofs.SpreadLemmas.{risen_flood, flow_well, away_well, spread_flood}
 
 pub no_items : {X : Type 0} (xs : List X) → length xs ≡ 0 → xs ≡ []
 no_items [] none = refl
 no_items (x ∷ xs) none = absurd (omega arith)
-
--- a mark that isn't 0 counts moves
-pub counted_by : (marks : List ℕ) (c : Cell) (m : ℕ) → slice_get marks c.0 ≡ Some m → m ≢ 0 → (k : ℕ) × IsCounted marks c k
-counted_by marks c zero at ne = absurd (ne refl)
-counted_by marks c (suc k) at ne = (k, at)
 
 -- a word that has a cell isn't 0
 pub held_word : (g : Terrain) (s : Span) (word : ℕ) (c : Cell) → Holds g s word c → word ≢ 0
@@ -83,17 +81,40 @@ count_cases g marks c fit opened = let inside : c.0 < length g.cells = slice_get
 
 -- an open cell of a span that wasn't looked at isn't counted, and one of another span where the span's word has it
 module _ (g : Terrain) (d : Distances) (s : Span) (i : ℕ) (c : Cell) (spans : AreSpans g d) (is : IsSpan g s) (at : IsCellAt g s i c) (opened : IsOpen g c) where
-  pub unknown_free : slice_get d.known s.number ≢ Some 1 → slice_get d.marks c.0 ≡ Some 0
-  unknown_free unknown = elim (count_cases g d.marks c spans.marks_fit opened) [
+  pub unknown_free : slice_get d.known s.number ≢ Some 1 → slice_get (marks_of g d) c.0 ≡ Some 0
+  unknown_free unknown = elim (count_cases g (marks_of g d) c spans.marks_fit opened) [
     | inl free ↦ free
     | inr counted ↦ absurd (unknown (spans.looked s i counted.0 c is at counted.1))
   ]
 
-  pub word_free : slice_get d.known s.number ≡ Some 1 → (w : ℕ) → slice_get d.free.items s.number ≡ Some w → IsSet w i ↔ (slice_get d.marks c.0 ≡ Some 0)
+  pub word_free : slice_get d.known s.number ≡ Some 1 → (w : ℕ) → slice_get d.free.items s.number ≡ Some w → IsSet w i ↔ (slice_get (marks_of g d) c.0 ≡ Some 0)
   word_free known w there = (
-    λ set. (let cell = spans.free_only s w i is known there set at.0 in subst (λ (z : Cell). slice_get d.marks z.0 ≡ Some 0) (cell_once g s i cell.0 c cell.1 at) cell.2.1),
+    λ set. (let cell = spans.free_only s w i is known there set at.0 in subst (λ (z : Cell). slice_get (marks_of g d) z.0 ≡ Some 0) (cell_once g s i cell.0 c cell.1 at) cell.2.1),
     λ free. spans.free_all s w i c is known there at (opened, free),
   )
+
+-- a cell that is counted is on a level that the layers of its span tell, and its moves are what is left of it
+module _ (g : Terrain) (d : Distances) (s : Span) (i : ℕ) (c : Cell) (spans : AreSpans g d) (is : IsSpan g s) (at : IsCellAt g s i c) (opened : IsOpen g c)
+    (many : d.few ≡ false) (counted : ¬ (slice_get (marks_of g d) c.0 ≡ Some 0)) where
+  has_count : HasCount (marks_of g d) c
+  has_count = elim (count_cases g (marks_of g d) c spans.marks_fit opened) [
+    | inl none ↦ absurd (counted none)
+    | inr has ↦ has
+  ]
+
+  pub counted_span : slice_get d.known s.number ≡ Some 1
+  counted_span = spans.looked s i has_count.0 c is at has_count.1
+
+  pub counted_level : told d.layers s.number i ≢ 0
+  counted_level =
+      let in_layers : IsCounted (marks_in g d.toward d.known d.layers) c has_count.0 = subst (λ (ms : List ℕ). IsCounted ms c has_count.0) (many_marks g d many) has_count.1 in
+      counted_told g s is d.toward d.known d.layers i c at has_count.0 in_layers
+
+  pub counted_moves : (level : ℕ) → told d.layers s.number i ≡ suc level → IsCounted (marks_of g d) c (level - apart g d.toward c)
+  counted_moves level on_level =
+      ap (λ (ms : List ℕ). slice_get ms c.0) (many_marks g d many)
+      ∙ (told_mark g s is d.toward d.known d.layers i c at (slice_get_within g.cells c.0 true opened) counted_span
+      ∙ ap (λ (t : ℕ). Some (mark_of 1 t (apart g d.toward c))) on_level)
 
 -- The batch of a span: what flows from its seeds, over free cells, toward the column that is aimed at.
 module _ (g : Terrain) (s : Span) (seeds free up down batch : ℕ) (old : Distances) (span : IsSpan g s) (known : slice_get old.known s.number ≡ Some 1) (spans : AreSpans g old)
@@ -108,7 +129,7 @@ module _ (g : Terrain) (s : Span) (seeds free up down batch : ℕ) (old : Distan
   flows_free (fall flow downward is_free) = is_free
 
   -- the cell at a place of the batch
-  cell_of : (i : ℕ) → IsSet free i → (c : Cell) × IsCellAt g s i c × IsFree g old.marks c
+  cell_of : (i : ℕ) → IsSet free i → (c : Cell) × IsCellAt g s i c × IsFree g (marks_of g old) c
   cell_of i is_free = spans.free_only s free i span known free_is is_free (within i is_free)
 
   flows_well : {i : ℕ} → Flows seeds free up down i → (c : Cell) → IsCellAt g s i c → WaitsWell g before old.level c
@@ -136,11 +157,11 @@ module _ (g : Terrain) (s : Span) (seeds free up down batch : ℕ) (old : Distan
   batch_low c held = let well = batch_well c held in omega (arith, well.1)
 
   -- a seed was counted before, or is in the batch
-  seed_cases : (c : Cell) → Holds g s seeds c → Holds g s batch c ⊎ HasCount old.marks c
+  seed_cases : (c : Cell) → Holds g s seeds c → Holds g s batch c ⊎ HasCount (marks_of g old) c
   seed_cases c (i, seed, at) =
       let well = flood.here_well c (inr (i, seed, at)) in
       let opened : IsOpen g c = way_open g well.2 in
-      elim (count_cases g old.marks c spans.marks_fit opened) [
+      elim (count_cases g (marks_of g old) c spans.marks_fit opened) [
         | inr counted ↦ inr counted
         | inl none ↦ inl (i, filled.all i (begin seed (spans.free_all s free i c span known free_is at (opened, none))), at)
       ]
@@ -169,24 +190,24 @@ module _ (g : Terrain) (s : Span) (seeds free up down batch : ℕ) (old : Distan
   })
 
   -- After the batch is counted no free cell of its span is led to closer in the row.
-  module _ (d1 d : Distances) (counted : HasCounted g s batch old d1) (marks_same : d.marks ≡ d1.marks) (toward_same : d.toward ≡ old.toward) where
-    free_old : (n : Cell) → IsFree g d.marks n → IsFree g old.marks n
-    free_old n (opened, none) = elim (count_cases g old.marks n spans.marks_fit opened) [
+  module _ (d1 d : Distances) (counted : HasCounted g s batch old d1) (marks_same : marks_of g d ≡ marks_of g d1) (toward_same : d.toward ≡ old.toward) where
+    free_old : (n : Cell) → IsFree g (marks_of g d) n → IsFree g (marks_of g old) n
+    free_old n (opened, none) = elim (count_cases g (marks_of g old) n spans.marks_fit opened) [
       | inl free_before ↦ (opened, free_before)
       | inr is ↦ absurd (
-          let now : IsCounted d1.marks n is.0 = counted.still n is.0 is.1 in
+          let now : IsCounted (marks_of g d1) n is.0 = counted.still n is.0 is.1 in
           let bad : 0 ≡ suc is.0 = same_Some 0 (suc is.0) (sym none ∙ (ap (λ (ms : List ℕ). slice_get ms n.0) marks_same ∙ now)) in
           omega arith)
     ]
 
-    batch_counted : (n : Cell) → Holds g s batch n → IsFree g d.marks n → ⊥
+    batch_counted : (n : Cell) → Holds g s batch n → IsFree g (marks_of g d) n → ⊥
     batch_counted n held (opened, none) =
         let well = batch_well n held in
-        let now : IsCounted d1.marks n well.0 = counted.counted n well.0 held well.1 in
+        let now : IsCounted (marks_of g d1) n well.0 = counted.counted n well.0 held well.1 in
         let bad : 0 ≡ suc well.0 = same_Some 0 (suc well.0) (sym none ∙ (ap (λ (ms : List ℕ). slice_get ms n.0) marks_same ∙ now)) in
         omega arith
 
-    set_free : (n : Cell) (i : ℕ) → IsFree g d.marks n → IsCellAt g s i n → IsSet free i
+    set_free : (n : Cell) (i : ℕ) → IsFree g (marks_of g d) n → IsCellAt g s i n → IsSet free i
     set_free n i is_free at = spans.free_all s free i n span known free_is at (free_old n is_free)
 
     pub shut_left : IsShut g Left s batch d
@@ -215,7 +236,7 @@ module _ (g : Terrain) (s : Span) (seeds free up down batch : ℕ) (old : Distan
   -- The batch is counted, and then its cells are left by the four sides.
   module _ (d1 d2 d3 d4 : Distances) (counted : HasCounted g s batch old d1) (one : HasSpreadTo g Up s batch d1 d2) (two : HasSpreadTo g Down s batch d2 d3)
       (row : HasMore g (λ on n. IsLedInRow g s batch d3 on n) d3 d4) where
-    marks_is : d4.marks ≡ d1.marks
+    marks_is : marks_of g d4 ≡ marks_of g d1
     marks_is = row.kept.marks ∙ (two.kept.marks ∙ one.kept.marks)
 
     toward_is : d1.toward ≡ old.toward
@@ -280,7 +301,7 @@ module _ (g : Terrain) (s : Span) (seeds free up down batch : ℕ) (old : Distan
     row_waits c n (inr (stands, step)) = inr (stands, subst (λ (p : Place). IsStep g p false c n) (two.kept.toward ∙ (one.kept.toward ∙ toward_is)) step)
 
     -- a free cell beside one of the batch waits in the end
-    free_waits : (c n : Cell) (side : Side) → Holds g s batch c → IsBeside g side c n → IsFree g d1.marks n → Waits c n
+    free_waits : (c n : Cell) (side : Side) → Holds g s batch c → IsBeside g side c n → IsFree g (marks_of g d1) n → Waits c n
     free_waits c n Up held beside free_one = elim (one.led c n held beside free_one) [
       | inl (stands, step) ↦ inl (row.kept.here n (two.kept.here n stands), subst (λ (p : Place). IsStep g p true c n) toward_is step)
       | inr (stands, step) ↦ inr (row.kept.next n (two.kept.next n stands), subst (λ (p : Place). IsStep g p false c n) toward_is step)
@@ -292,7 +313,7 @@ module _ (g : Terrain) (s : Span) (seeds free up down batch : ℕ) (old : Distan
     free_waits c n Left held beside free_one = row_waits c n (row_left g s batch d3 d4 row c n held beside (subst (λ (ms : List ℕ). IsFree g ms n) (sym (two.kept.marks ∙ one.kept.marks)) free_one))
     free_waits c n Right held beside free_one = row_waits c n (row_right g s batch d3 d4 row c n held beside (subst (λ (ms : List ℕ). IsFree g ms n) (sym (two.kept.marks ∙ one.kept.marks)) free_one))
 
-    pub has_spread : length d1.marks ≡ length g.cells → HasSpread g (λ c. Holds g s batch c) before (flood_of g d4)
+    pub has_spread : length (marks_of g d1) ≡ length g.cells → HasSpread g (λ c. Holds g s batch c) before (flood_of g d4)
     has_spread fit = record {
       goal = row.kept.goal ∙ (two.kept.goal ∙ (one.kept.goal ∙ counted.goal));
       toward = row.kept.toward ∙ (two.kept.toward ∙ (one.kept.toward ∙ counted.toward));
@@ -311,11 +332,11 @@ module _ (g : Terrain) (s : Span) (seeds free up down batch : ℕ) (old : Distan
         ])
       ];
       next_kept = λ c stands. inl (next_after c stands);
-      spread = λ c n side held beside opened. elim (count_cases g d1.marks n fit opened) [
+      spread = λ c n side held beside opened. elim (count_cases g (marks_of g d1) n fit opened) [
         | inr is ↦ inl (is.0, subst (λ (ms : List ℕ). IsCounted ms n is.0) (sym marks_is) is.1)
         | inl none ↦ inr (free_waits c n side held beside (opened, none))
       ];
     }
 
-    pub spread_spans : length d1.marks ≡ length g.cells → IsFlood g (flood_of g d4)
+    pub spread_spans : length (marks_of g d1) ≡ length g.cells → IsFlood g (flood_of g d4)
     spread_spans fit = spread_flood g (λ c. Holds g s batch c) before (flood_of g d4) flood (has_spread fit)

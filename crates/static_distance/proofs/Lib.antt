@@ -7,8 +7,9 @@ pub mod BesideLemmas
 pub mod TakeLemmas
 pub mod OrderLemmas
 pub mod SpanLemmas
-pub mod BatchLemmas
-pub mod BatchListLemmas
+pub mod LayerLemmas
 pub mod MarkLemmas
+pub mod ListLemmas
+pub mod CountLemmas
 pub mod SideLemmas
 pub mod RowLemmas

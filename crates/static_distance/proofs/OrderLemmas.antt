@@ -107,6 +107,7 @@ turned_spans g old level here next are words spans next_is = record {
   free_only = are.free_only;
   free_all = are.free_all;
   looked = are.looked;
+  layered = are.layered;
   here_listed = subst (λ (xs : List Span). AreListed g old.known here.words.items xs) (sym spans)
       (subst (λ (v : Vec ℕ Global). AreListed g old.known v.items (reverse old.next.spans.items)) (sym words) (turned_listed g old.known old.next.words.items old.next.spans.items are.next_listed));
   next_listed = subst (λ (w : Waiting). AreListed g old.known w.words.items w.spans.items) (sym next_is) are.here_listed;

@@ -1,8 +1,6 @@
 -- How far cells beside each other are from a place.
-use Rattle.std.proofs.Common.{length, ◌≡◌, ℕ, ◌+◌, ◌/◌, ◌%◌, ◌<◌, ◌≤◌, Bool, true, false, nat_lt, refl, ap, ◌∙◌, arith}
-use Rattle.std.specs.Bool.{OnTrue}
+use Rattle.std.proofs.Common.{length, ◌≡◌, ℕ, ◌+◌, ◌/◌, ◌%◌, ◌<◌, ◌≤◌, ap, ◌∙◌, arith}
 use Rattle.std.proofs.lemmas.Nat.{mod-mul-add, div-mul-add}
-use Rattle.std.proofs.lemmas.Bool.{ltb-true}
 use Rattle.fleet_base.specs.declared.grid.Cell.{Cell}
 use Rattle.fleet_base.specs.declared.grid.Side.{Side}
 use Rattle.fleet_base.specs.declared.grid.Side.TheVariants.{Up, Left, Right, Down}
@@ -98,14 +96,6 @@ low_apart g toward Up c n (x, y, at, to) = omega (arith, apart_at g toward c x (
 low_apart g toward Left c n (x, y, at, to) = omega (arith, apart_at g toward c (x + 1) y at, apart_at g toward n x y to)
 low_apart g toward Right c n (x, y, at, to) = omega (arith, apart_at g toward c x y at, apart_at g toward n (x + 1) y to)
 low_apart g toward Down c n (x, y, at, to) = omega (arith, apart_at g toward c x y at, apart_at g toward n x (y + 1) to)
-
--- what follows from a comparison
-pub on_less : (a b : ℕ) (P : Type 0) → (a < b → P) → OnTrue (nat_lt a b) P
-on_less a b P then_less = on (nat_lt a b) refl
-  where
-    on : (v : Bool) → nat_lt a b ≡ v → OnTrue v P
-    on true e = then_less (ltb-true a b e)
-    on false e = tt
 
 -- no way to the cell of a place has fewer moves than if all cells were open
 pub way_long : (g : Terrain) (place : Place) {goal c : Cell} {k : ℕ} → IsPlaceOf g goal place → IsWay g goal c k → apart g place c ≤ k

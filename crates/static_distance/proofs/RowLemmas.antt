@@ -10,6 +10,7 @@ use Rattle.row_words.proofs.WordLemmas.{set_below}
 use Rattle.static_distance.specs.declared.place.Place.{Place}
 use Rattle.static_distance.specs.declared.span.Span.{Span}
 use Rattle.static_distance.specs.declared.distances.Distances.{Distances}
+use Rattle.static_distance.specs.Marks.{marks_of}
 use Rattle.static_distance.specs.Spans.{IsSpan, IsCellAt, Holds, Stands, IsFree, AreSpans, HasEntered, IsStep, IsLed, IsShut}
 use Rattle.static_distance.specs.Rows.{HasMore, IsIn, IsLedInRow, IsLedWithin, IsLedOut}
 use Rattle.static_distance.proofs.SideLemmas.{at_once, same_at, before_at, after_at, nearer, step_to, step_once, left_closer, left_farther, right_closer, right_farther, Enters, more_entered, more_twice, more_same, more_none, more_waits}
@@ -58,7 +59,7 @@ free_inside g s word free d is are known at fits within i set = (are.free_only s
 -- Left: the cells of the word from which the lesser column is closer lead to no free cell of the span.
 module _ (g : Terrain) (s : Span) (word away : ℕ) (old : Distances) (is : IsSpan g s) (inside : (i : ℕ) → IsSet word i → s.column + i < g.width)
     (fits : word < 2 ^ 64) (shut : IsShut g Left s word old) (away_is : (i : ℕ) → IsSet away i ↔ (IsSet word (i + 1) × (s.column + (i + 1) ≤ old.toward.column))) where
-  left_from : (n : Cell) → Holds g s away n → IsFree g old.marks n → IsLed g Left s word old false n
+  left_from : (n : Cell) → Holds g s away n → IsFree g (marks_of g old) n → IsLed g Left s word old false n
   left_from n (i, set, (below, at)) free =
       let parts : IsSet word (i + 1) × (s.column + (i + 1) ≤ old.toward.column) = (away_is i).0 set in
       let c : Cell = record { 0 = s.row * g.width + (s.column + (i + 1)) } in
@@ -72,7 +73,7 @@ module _ (g : Terrain) (s : Span) (word away : ℕ) (old : Distances) (is : IsSp
         step = left_farther g old.toward c n (s.column + (i + 1)) s.row from beside parts.1;
       }
 
-  left_to : (c n : Cell) (i : ℕ) → IsSet word (i + 1) → IsCellAt g s (i + 1) c → IsBeside g Left c n → IsFree g old.marks n
+  left_to : (c n : Cell) (i : ℕ) → IsSet word (i + 1) → IsCellAt g s (i + 1) c → IsBeside g Left c n → IsFree g (marks_of g old) n
       → Holds g s away n × IsStep g old.toward false c n
   left_to c n i set (below, at) beside free =
       let to : IsAt g n (s.column + i) s.row = before_at g c n (s.column + i) s.row (same_at g c (s.column + (i + 1)) s.row (s.column + i + 1) s.row (omega arith) refl at) beside in
@@ -85,7 +86,7 @@ module _ (g : Terrain) (s : Span) (word away : ℕ) (old : Distances) (is : IsSp
 -- Right: the cells of the word from which the greater column is closer lead to no free cell of the span.
 module _ (g : Terrain) (s : Span) (word away : ℕ) (old : Distances) (is : IsSpan g s) (shut : IsShut g Right s word old)
     (away_is : (i : ℕ) → IsSet away i ↔ ((j : ℕ) × (i ≡ j + 1) × (i < 64) × IsSet word j × (old.toward.column ≤ s.column + j))) where
-  right_from : (n : Cell) → Holds g s away n → IsFree g old.marks n → IsLed g Right s word old false n
+  right_from : (n : Cell) → Holds g s away n → IsFree g (marks_of g old) n → IsLed g Right s word old false n
   right_from n (i, set, (below, at)) free =
       let parts : (j : ℕ) × (i ≡ j + 1) × (i < 64) × IsSet word j × (old.toward.column ≤ s.column + j) = (away_is i).0 set in
       let after : i ≡ parts.0 + 1 = parts.1 in
@@ -101,7 +102,7 @@ module _ (g : Terrain) (s : Span) (word away : ℕ) (old : Distances) (is : IsSp
         step = right_farther g old.toward c n (s.column + parts.0) s.row from beside parts.4;
       }
 
-  right_to : (c n : Cell) (i : ℕ) → IsSet word i → IsCellAt g s i c → i + 1 < 64 → IsBeside g Right c n → IsFree g old.marks n
+  right_to : (c n : Cell) (i : ℕ) → IsSet word i → IsCellAt g s i c → i + 1 < 64 → IsBeside g Right c n → IsFree g (marks_of g old) n
       → Holds g s away n × IsStep g old.toward false c n
   right_to c n i set (below, at) room beside free =
       let to : IsAt g n (s.column + (i + 1)) s.row = same_at g n (s.column + i + 1) s.row (s.column + (i + 1)) s.row (omega arith) refl (after_at g c n (s.column + i) s.row at beside) in
@@ -142,7 +143,7 @@ module _ (g : Terrain) (s : Span) (word left right away : ℕ) (old new : Distan
     (left_is : (i : ℕ) → IsSet left i ↔ (IsSet word (i + 1) × (s.column + (i + 1) ≤ old.toward.column)))
     (right_is : (i : ℕ) → IsSet right i ↔ ((j : ℕ) × (i ≡ j + 1) × (i < 64) × IsSet word j × (old.toward.column ≤ s.column + j)))
     (away_is : (i : ℕ) → IsSet away i ↔ (IsSet left i ⊎ IsSet right i)) where
-  within_from : (on : Bool) (n : Cell) → Enters g s away false old.marks on n → IsLedWithin g s word old on n
+  within_from : (on : Bool) (n : Cell) → Enters g s away false (marks_of g old) on n → IsLedWithin g s word old on n
   within_from on n (closer, (i, set, at), free) = (
     (i, at),
     elim ((away_is i).0 set) [
@@ -164,14 +165,14 @@ module _ (g : Terrain) (s : Span) (word left right away : ℕ) (old new : Distan
       let found = right_to g s word right old is shut_right right_is led.from n led.held.0 led.held.1 led.held.2 (omega (arith, at.0)) led.beside led.free in
       (found.0.0, (away_is found.0.0).1 (inr found.0.1), found.0.2)
 
-  within_to : (on : Bool) (n : Cell) → IsLedWithin g s word old on n → Enters g s away false old.marks on n
+  within_to : (on : Bool) (n : Cell) → IsLedWithin g s word old on n → Enters g s away false (marks_of g old) on n
   within_to true n (within, inl led) = absurd (shut_left led.from n led.held led.beside led.free led.step within.0 within.1)
   within_to true n (within, inr led) = absurd (shut_right led.from n led.held led.beside led.free led.step within.0 within.1)
   within_to false n (within, inl led) = (refl, within_left n within led, led.free)
   within_to false n (within, inr led) = (refl, within_right n within led, led.free)
 
   pub spread_within : HasEntered g s away false old new → HasMore g (λ on n. IsLedWithin g s word old on n) old new
-  spread_within has = more_same g (λ on n. Enters g s away false old.marks on n) (λ on n. IsLedWithin g s word old on n) old new (more_entered g s away false old new has) within_from within_to
+  spread_within has = more_same g (λ on n. Enters g s away false (marks_of g old) on n) (λ on n. IsLedWithin g s word old on n) old new (more_entered g s away false old new has) within_from within_to
 
 -- ---- out of the span
 
@@ -209,7 +210,7 @@ spread_right_none g s word d edge = more_none g (λ on n. IsLedOut g Right s wor
 -- t is the span before s, and the first cell of s leads to the last one of t
 module _ (g : Terrain) (s t : Span) (word last : ℕ) (old new : Distances) (is : IsSpan g s) (row : t.row ≡ s.row) (column : t.column + 64 ≡ s.column) (first : IsSet word 0)
     (last_is : (i : ℕ) → IsSet last i ↔ (i ≡ 63)) where
-  left_out_from : (on : Bool) (n : Cell) → Enters g t last (nat_lt old.toward.column s.column) old.marks on n → IsLedOut g Left s word old on n
+  left_out_from : (on : Bool) (n : Cell) → Enters g t last (nat_lt old.toward.column s.column) (marks_of g old) on n → IsLedOut g Left s word old on n
   left_out_from on n (closer, (i, set, (below, at)), free) =
       let place : i ≡ 63 = (last_is i).0 set in
       let c : Cell = record { 0 = s.row * g.width + s.column } in
@@ -225,7 +226,7 @@ module _ (g : Terrain) (s t : Span) (word last : ℕ) (old new : Distances) (is 
         λ (k, (inside, there)). (let same = at_once g n (t.column + i) t.row (s.column + k) s.row at there in omega (arith, same.0)),
       )
 
-  left_out_to : (on : Bool) (n : Cell) → IsLedOut g Left s word old on n → Enters g t last (nat_lt old.toward.column s.column) old.marks on n
+  left_out_to : (on : Bool) (n : Cell) → IsLedOut g Left s word old on n → Enters g t last (nat_lt old.toward.column s.column) (marks_of g old) on n
   left_out_to on n (led, out) = elim (cases_eq led.held.0 0) [
     | inl place ↦
         let from : IsAt g led.from s.column s.row = same_at g led.from (s.column + led.held.0) s.row s.column s.row (omega (arith, place)) refl led.held.2.1 in
@@ -238,13 +239,13 @@ module _ (g : Terrain) (s t : Span) (word last : ℕ) (old new : Distances) (is 
   ]
 
   pub spread_left_out : HasEntered g t last (nat_lt old.toward.column s.column) old new → HasMore g (λ on n. IsLedOut g Left s word old on n) old new
-  spread_left_out has = more_same g (λ on n. Enters g t last (nat_lt old.toward.column s.column) old.marks on n) (λ on n. IsLedOut g Left s word old on n) old new
+  spread_left_out has = more_same g (λ on n. Enters g t last (nat_lt old.toward.column s.column) (marks_of g old) on n) (λ on n. IsLedOut g Left s word old on n) old new
       (more_entered g t last (nat_lt old.toward.column s.column) old new has) left_out_from left_out_to
 
 -- t is the span after s, and the last cell of s leads to the first one of t
 module _ (g : Terrain) (s t : Span) (word first : ℕ) (old new : Distances) (is : IsSpan g s) (row : t.row ≡ s.row) (column : t.column ≡ s.column + 64) (last : IsSet word 63)
     (first_is : (i : ℕ) → IsSet first i ↔ (i ≡ 0)) where
-  right_out_from : (on : Bool) (n : Cell) → Enters g t first (nat_lt (s.column + 63) old.toward.column) old.marks on n → IsLedOut g Right s word old on n
+  right_out_from : (on : Bool) (n : Cell) → Enters g t first (nat_lt (s.column + 63) old.toward.column) (marks_of g old) on n → IsLedOut g Right s word old on n
   right_out_from on n (closer, (i, set, (below, at)), free) =
       let place : i ≡ 0 = (first_is i).0 set in
       let c : Cell = record { 0 = s.row * g.width + (s.column + 63) } in
@@ -261,7 +262,7 @@ module _ (g : Terrain) (s t : Span) (word first : ℕ) (old new : Distances) (is
         λ (k, (inside, there)). (let same = at_once g n (t.column + i) t.row (s.column + k) s.row at there in omega (arith, same.0)),
       )
 
-  right_out_to : (on : Bool) (n : Cell) → IsLedOut g Right s word old on n → Enters g t first (nat_lt (s.column + 63) old.toward.column) old.marks on n
+  right_out_to : (on : Bool) (n : Cell) → IsLedOut g Right s word old on n → Enters g t first (nat_lt (s.column + 63) old.toward.column) (marks_of g old) on n
   right_out_to on n (led, out) = elim (cases_eq led.held.0 63) [
     | inl place ↦
         let from : IsAt g led.from (s.column + 63) s.row = same_at g led.from (s.column + led.held.0) s.row (s.column + 63) s.row (omega (arith, place)) refl led.held.2.1 in
@@ -274,13 +275,13 @@ module _ (g : Terrain) (s t : Span) (word first : ℕ) (old new : Distances) (is
   ]
 
   pub spread_right_out : HasEntered g t first (nat_lt (s.column + 63) old.toward.column) old new → HasMore g (λ on n. IsLedOut g Right s word old on n) old new
-  spread_right_out has = more_same g (λ on n. Enters g t first (nat_lt (s.column + 63) old.toward.column) old.marks on n) (λ on n. IsLedOut g Right s word old on n) old new
+  spread_right_out has = more_same g (λ on n. Enters g t first (nat_lt (s.column + 63) old.toward.column) (marks_of g old) on n) (λ on n. IsLedOut g Right s word old on n) old new
       (more_entered g t first (nat_lt (s.column + 63) old.toward.column) old new has) right_out_from right_out_to
 
 -- ---- the whole row
 
 -- who is led to is so where the same is counted and aimed at
-led_same : (g : Terrain) (side : Side) (s : Span) (word : ℕ) (d e : Distances) (on : Bool) (n : Cell) → e.marks ≡ d.marks → e.toward ≡ d.toward → IsLed g side s word d on n
+led_same : (g : Terrain) (side : Side) (s : Span) (word : ℕ) (d e : Distances) (on : Bool) (n : Cell) → marks_of g e ≡ marks_of g d → e.toward ≡ d.toward → IsLed g side s word d on n
     → IsLed g side s word e on n
 led_same g side s word d e on n marks toward led = record {
   from = led.from;
@@ -333,14 +334,14 @@ module _ (g : Terrain) (s : Span) (word : ℕ) (old one two new : Distances) (wi
 
 -- each free cell beside one of the word's in the row waits then
 module _ (g : Terrain) (s : Span) (word : ℕ) (old new : Distances) (has : HasMore g (λ on n. IsLedInRow g s word old on n) old new) where
-  pub row_left : (c n : Cell) → Holds g s word c → IsBeside g Left c n → IsFree g old.marks n
+  pub row_left : (c n : Cell) → Holds g s word c → IsBeside g Left c n → IsFree g (marks_of g old) n
       → (Stands g new.known new.here.words.items n × IsStep g old.toward true c n) ⊎ (Stands g new.known new.next.words.items n × IsStep g old.toward false c n)
   row_left c n (i, set, (below, at)) beside free =
       let step : IsStep g old.toward (nearer Left (s.column + i) s.row old.toward) c n = step_to g old.toward c n (s.column + i) s.row at Left beside in
       let led : IsLed g Left s word old (nearer Left (s.column + i) s.row old.toward) n = record { from = c; held = (i, set, (below, at)); beside = beside; free = free; step = step } in
       more_waits g (λ on m. IsLedInRow g s word old on m) old new has c n (nearer Left (s.column + i) s.row old.toward) (inl led) step
 
-  pub row_right : (c n : Cell) → Holds g s word c → IsBeside g Right c n → IsFree g old.marks n
+  pub row_right : (c n : Cell) → Holds g s word c → IsBeside g Right c n → IsFree g (marks_of g old) n
       → (Stands g new.known new.here.words.items n × IsStep g old.toward true c n) ⊎ (Stands g new.known new.next.words.items n × IsStep g old.toward false c n)
   row_right c n (i, set, (below, at)) beside free =
       let step : IsStep g old.toward (nearer Right (s.column + i) s.row old.toward) c n = step_to g old.toward c n (s.column + i) s.row at Right beside in

@@ -9,6 +9,7 @@ use Rattle.static_distance.specs.declared.place.Place.{Place}
 use Rattle.static_distance.specs.declared.span.Span.{Span}
 use Rattle.static_distance.specs.declared.distances.Distances.{Distances}
 use Rattle.static_distance.specs.Levels.{IsPlaceOf, apart}
+use Rattle.static_distance.specs.Marks.{marks_of}
 use Rattle.static_distance.specs.Spans.{IsSpan, Holds, Stands, IsFree, KeepsWaiting, HasEntered, IsStep, IsLed, HasSpreadTo}
 use Rattle.static_distance.specs.Rows.{HasMore}
 use Rattle.static_distance.proofs.Places.{column_at, row_at, closer_up, farther_up, closer_left, farther_left, closer_right, farther_right, closer_down, farther_down}
@@ -106,7 +107,7 @@ kept_twice g old between new first second = record {
 }
 
 pub more_entered : (g : Terrain) (t : Span) (word : ℕ) (closer : Bool) (old new : Distances) → HasEntered g t word closer old new
-    → HasMore g (λ on n. Enters g t word closer old.marks on n) old new
+    → HasMore g (λ on n. Enters g t word closer (marks_of g old) on n) old new
 more_entered g t word closer old new has = record {
   kept = has.kept;
   here_only = has.here_only;
@@ -162,7 +163,7 @@ more_waits g more old new has c n false then step = inr (has.next_more n then, s
 -- All that waits more is led to from the word's cells, and all that is led to waits.
 pub spread_more : (g : Terrain) (side : Side) (s : Span) (word : ℕ) (more : Bool → Cell → Type 0) (old new : Distances) → HasMore g more old new
     → ((on : Bool) (n : Cell) → more on n → IsLed g side s word old on n)
-    → ((c n : Cell) → Holds g s word c → IsBeside g side c n → IsFree g old.marks n → (on : Bool) × more on n × IsStep g old.toward on c n)
+    → ((c n : Cell) → Holds g s word c → IsBeside g side c n → IsFree g (marks_of g old) n → (on : Bool) × more on n × IsStep g old.toward on c n)
     → HasSpreadTo g side s word old new
 spread_more g side s word more old new has from to = record {
   kept = has.kept;
@@ -176,7 +177,7 @@ spread_more g side s word more old new has from to = record {
 module _ (g : Terrain) (s t : Span) (word : ℕ) (old new : Distances) (is : IsSpan g s) (column : t.column ≡ s.column) where
   -- t is the span above s
   pub spread_above : t.row + 1 ≡ s.row → HasEntered g t word (nat_lt old.toward.row s.row) old new → HasSpreadTo g Up s word old new
-  spread_above row has = spread_more g Up s word (λ on n. Enters g t word (nat_lt old.toward.row s.row) old.marks on n) old new
+  spread_above row has = spread_more g Up s word (λ on n. Enters g t word (nat_lt old.toward.row s.row) (marks_of g old) on n) old new
       (more_entered g t word (nat_lt old.toward.row s.row) old new has)
       (λ on n (closer, (i, set, (below, at)), free).
       let c : Cell = record { 0 = s.row * g.width + (s.column + i) } in
@@ -204,7 +205,7 @@ module _ (g : Terrain) (s t : Span) (word : ℕ) (old new : Distances) (is : IsS
 
   -- t is the span under s
   pub spread_under : t.row ≡ s.row + 1 → HasEntered g t word (nat_lt s.row old.toward.row) old new → HasSpreadTo g Down s word old new
-  spread_under row has = spread_more g Down s word (λ on n. Enters g t word (nat_lt s.row old.toward.row) old.marks on n) old new
+  spread_under row has = spread_more g Down s word (λ on n. Enters g t word (nat_lt s.row old.toward.row) (marks_of g old) on n) old new
       (more_entered g t word (nat_lt s.row old.toward.row) old new has)
       (λ on n (closer, (i, set, (below, at)), free).
       let c : Cell = record { 0 = s.row * g.width + (s.column + i) } in

@@ -1,7 +1,8 @@
 -- Spans of a grid: what is known of a span and its word, and of the cells that stand in it.
-use Rattle.std.proofs.Common.{◌≡◌, ◌≢◌, ℕ, zero, suc, ◌+◌, ◌-◌, ◌*◌, ◌/◌, ◌%◌, ◌<◌, ◌⊎◌, ◌↔◌, inl, inr, min, get_or, Bool, true, false, List, [], ◌∷◌, length, Some, refl, sym, ap, subst, ◌∙◌, arith, set, take, drop}
-use Rattle.std.specs.Prelude.{slice_get}
-use Rattle.std.proofs.lemmas.Bool.{cases_eq}
+use Rattle.std.proofs.Common.{◌≡◌, ◌≢◌, ℕ, zero, suc, ◌+◌, ◌-◌, ◌*◌, ◌/◌, ◌%◌, ◌<◌, ◌≤◌, ◌⊎◌, ◌↔◌, inl, inr, min, get_or, Bool, true, false, List, [], ◌∷◌, length, Some, refl, sym, ap, subst, ◌∙◌, arith, set, take, drop}
+use Rattle.std.specs.Prelude.{slice_get, Vec}
+use Rattle.std.specs.Global.{Global}
+use Rattle.std.proofs.lemmas.Bool.{cases_eq, cases_Bool}
 use Rattle.std.proofs.lemmas.List.{length-set, length-take}
 use Rattle.std.proofs.lemmas.Nat.{mod-mul-add, div-mul-add, mul-add-lt}
 use Rattle.std.proofs.lemmas.Option.{slice_get_within, slice_get-get_or, slice_get_read, same_Some}
@@ -13,10 +14,16 @@ use Rattle.row_words.proofs.WordLemmas.{is_empty}
 use Rattle.static_distance.specs.declared.span.Span.{Span}
 use Rattle.static_distance.specs.declared.waiting.Waiting.{Waiting}
 use Rattle.static_distance.specs.declared.distances.Distances.{Distances}
+use Rattle.static_distance.specs.declared.layers.Layer.{Layer}
+use Rattle.static_distance.specs.declared.place.Place.{Place}
 use Rattle.static_distance.specs.Levels.{IsCounted}
+use Rattle.static_distance.specs.Layers.{no_layer, newest_of, AreFalling, IsLinked}
+use Rattle.static_distance.specs.Marks.{stride, marks_in, marks_of}
 use Rattle.static_distance.specs.Waiting.{IsListed, HasAdded}
-use Rattle.static_distance.specs.Spans.{stride, IsSpan, IsCellAt, Holds, Stands, AreListed, IsFree, AreSpans, HasEntered}
+use Rattle.static_distance.specs.Spans.{IsSpan, IsCellAt, Holds, Stands, AreListed, IsFree, AreLayers, AreSpans, HasEntered}
 use Rattle.static_distance.specs.Aim.{HasLooked}
+use Rattle.static_distance.proofs.LayerLemmas.{newest_here, newest_there, newest_count}
+use Rattle.static_distance.proofs.MarkLemmas.{part_inside, few_marks, many_marks, begun_marks}
 
 -- ---- lists
 
@@ -55,12 +62,8 @@ same_spans s t number row column =
     ap (λ (n : ℕ). span_of n s.row s.column) number ∙ (ap (λ (n : ℕ). span_of t.number n s.column) row ∙ ap (span_of t.number t.row) column)
 
 module _ (g : Terrain) where
-  -- a row has more spans than the span's part says
-  pub part_inside : (s : Span) (is : IsSpan g s) → is.part < stride g
-  part_inside s is = (let inside : s.column < g.width = is.column_in in omega (arith, is.column_is))
-
   pub span_inside : (s : Span) → IsSpan g s → s.number < g.height * stride g
-  span_inside s is = (let inside : s.row * stride g + is.part < stride g * g.height = mul-add-lt s.row (stride g) is.part g.height is.row_in (part_inside s is) in
+  span_inside s is = (let inside : s.row * stride g + is.part < stride g * g.height = mul-add-lt s.row (stride g) is.part g.height is.row_in (part_inside g s is) in
       omega (arith, is.number_is))
 
   -- the span has a place in a list with one for each span
@@ -72,9 +75,9 @@ module _ (g : Terrain) where
   span_once s t is is' number =
       let numbers : s.row * stride g + is.part ≡ t.row * stride g + is'.part = sym is.number_is ∙ number ∙ is'.number_is in
       let row : s.row ≡ t.row =
-      sym (div-mul-add s.row (stride g) is.part (part_inside s is)) ∙ ap (λ (n : ℕ). n / stride g) numbers ∙ div-mul-add t.row (stride g) is'.part (part_inside t is') in
+      sym (div-mul-add s.row (stride g) is.part (part_inside g s is)) ∙ ap (λ (n : ℕ). n / stride g) numbers ∙ div-mul-add t.row (stride g) is'.part (part_inside g t is') in
       let part : is.part ≡ is'.part =
-      sym (mod-mul-add s.row (stride g) is.part (part_inside s is)) ∙ ap (λ (n : ℕ). n % stride g) numbers ∙ mod-mul-add t.row (stride g) is'.part (part_inside t is') in
+      sym (mod-mul-add s.row (stride g) is.part (part_inside g s is)) ∙ ap (λ (n : ℕ). n % stride g) numbers ∙ mod-mul-add t.row (stride g) is'.part (part_inside g t is') in
       same_spans s t number row (omega (arith, is.column_is, is'.column_is))
 
   -- a cell stands at one place of one span
@@ -173,13 +176,16 @@ module _ (g : Terrain) where
     pub goal : e.goal ≡ d.goal
     pub toward : e.toward ≡ d.toward
     pub level : e.level ≡ d.level
-    pub marks : e.marks ≡ d.marks
+    pub few : e.few ≡ d.few
+    pub by_cell : e.by_cell ≡ d.by_cell
     pub known : e.known ≡ set d.known n 1
     pub free : e.free.items ≡ set d.free.items n word
     pub here : e.here.words.items ≡ set d.here.words.items n 0
     pub next : e.next.words.items ≡ set d.next.words.items n 0
     pub here_spans : e.here.spans ≡ d.here.spans
     pub next_spans : e.next.spans ≡ d.next.spans
+    pub newest : e.layers.newest.items ≡ set d.layers.newest.items n no_layer
+    pub older : e.layers.older ≡ d.layers.older
 
   free_or_counted : (marks : List ℕ) (c : Cell) (m : ℕ) → slice_get marks c.0 ≡ Some m → (slice_get marks c.0 ≡ Some 0) ⊎ ((k : ℕ) × IsCounted marks c k)
   free_or_counted marks c zero at = inl at
@@ -195,19 +201,52 @@ module _ (g : Terrain) where
     in_next : s.number < length d.next.words.items
     in_next = span_within s d.next.words.items is spans.next_fit
 
+    known_then : (k : ℕ) → slice_get d.known k ≡ Some 1 → slice_get e.known k ≡ Some 1
+    known_then k at = ap (λ (xs : List ℕ). slice_get xs k) looks.known ∙ known_still d.known s.number k unknown at
+
+    -- where there are many cells the span is begun in the layers
+    module _ (layered : AreLayers g d.known d.layers (marks_of g d)) where
+      in_layers : s.number < length d.layers.newest.items
+      in_layers = omega (arith, layered.fit, span_inside s is)
+
+      layers_tell : marks_in g e.toward e.known e.layers ≡ marks_in g d.toward d.known d.layers
+      layers_tell =
+          ap (λ (p : Place). marks_in g p e.known e.layers) looks.toward
+          ∙ begun_marks g d.toward d.known e.known d.layers e.layers s.number unknown (span_within s d.known is spans.known_fit) in_layers looks.known looks.newest looks.older
+
+      looked_linked : (n : ℕ) → slice_get e.known n ≡ Some 1 → IsLinked e.layers n
+      looked_linked n known_is = elim (cases_eq n s.number) [
+        | inl same ↦ subst (λ (z : Layer). z.older ≤ length e.layers.older.items) (sym (ap (newest_of e.layers) same ∙ newest_here d.layers e.layers s.number no_layer in_layers looks.newest)) (omega arith)
+        | inr other ↦
+            let before : IsLinked d.layers n = layered.linked n (known_before d.known s.number n other (ap (λ (xs : List ℕ). slice_get xs n) (sym looks.known) ∙ known_is)) in
+            subst (λ (z : Layer). z.older ≤ length e.layers.older.items) (sym (newest_there d.layers e.layers s.number no_layer in_layers looks.newest n other))
+            (subst (λ (v : Vec Layer Global). (newest_of d.layers n).older ≤ length v.items) (sym looks.older) before)
+      ]
+
+      looked_layers : AreLayers g e.known e.layers (marks_of g d)
+      looked_layers = record {
+        fit = newest_count d.layers e.layers s.number no_layer in_layers looks.newest ∙ layered.fit;
+        falling = subst (λ (v : Vec Layer Global). AreFalling v.items) (sym looks.older) layered.falling;
+        linked = looked_linked;
+        few = omega (arith, layered.few, ap (λ (v : Vec Layer Global). length v.items) looks.older);
+      }
+
+    looked_marks : marks_of g e ≡ marks_of g d
+    looked_marks = elim (cases_Bool d.few) [
+      | inl few ↦ few_marks g e (looks.few ∙ few) ∙ (looks.by_cell ∙ sym (few_marks g d few))
+      | inr many ↦ many_marks g e (looks.few ∙ many) ∙ (layers_tell (spans.layered many) ∙ sym (many_marks g d many))
+    ]
+
     -- no cell of the span is counted, so that those that are open are free
-    open_free : (i : ℕ) (c : Cell) → IsCellAt g s i c → IsOpen g c → IsFree g d.marks c
+    open_free : (i : ℕ) (c : Cell) → IsCellAt g s i c → IsOpen g c → IsFree g (marks_of g d) c
     open_free i c cell is_open =
-        let inside : c.0 < length d.marks = omega (arith, spans.marks_fit, slice_get_within g.cells c.0 true is_open) in (
+        let inside : c.0 < length (marks_of g d) = omega (arith, spans.marks_fit, slice_get_within g.cells c.0 true is_open) in (
           is_open,
-          elim (free_or_counted d.marks c (get_or d.marks c.0 0) (slice_get-get_or d.marks c.0 0 inside)) [
+          elim (free_or_counted (marks_of g d) c (get_or (marks_of g d) c.0 0) (slice_get-get_or (marks_of g d) c.0 0 inside)) [
             | inl free ↦ free
             | inr (k, counted) ↦ absurd (unknown (spans.looked s i k c is cell counted))
           ],
         )
-
-    known_then : (k : ℕ) → slice_get d.known k ≡ Some 1 → slice_get e.known k ≡ Some 1
-    known_then k at = ap (λ (xs : List ℕ). slice_get xs k) looks.known ∙ known_still d.known s.number k unknown at
 
     known_here : slice_get e.known s.number ≡ Some 1
     known_here = ap (λ (xs : List ℕ). slice_get xs s.number) looks.known ∙ set_here d.known s.number 1 (span_within s d.known is spans.known_fit)
@@ -225,7 +264,7 @@ module _ (g : Terrain) where
     free_elsewhere k w other at = sym (set_there d.free.items s.number k word other) ∙ (ap (λ (xs : List ℕ). slice_get xs k) (sym looks.free) ∙ at)
 
     looked_free_only : (t : Span) (w i : ℕ) → IsSpan g t → slice_get e.known t.number ≡ Some 1 → slice_get e.free.items t.number ≡ Some w → IsSet w i → i < 64
-        → (c : Cell) × IsCellAt g t i c × IsFree g d.marks c
+        → (c : Cell) × IsCellAt g t i c × IsFree g (marks_of g d) c
     looked_free_only t w i is' known_is at set below = elim (cases_eq t.number s.number) [
       | inl same ↦
           let cell : (c : Cell) × IsCellAt g s i c × IsOpen g c = values i true ((opened i).0 (subst (λ (u : ℕ). IsSet u i) (free_word t w same at) set)) in
@@ -233,7 +272,7 @@ module _ (g : Terrain) where
       | inr other ↦ spans.free_only t w i is' (known_elsewhere t.number other known_is) (free_elsewhere t.number w other at) set below
     ]
 
-    looked_free_all : (t : Span) (w i : ℕ) (c : Cell) → IsSpan g t → slice_get e.known t.number ≡ Some 1 → slice_get e.free.items t.number ≡ Some w → IsCellAt g t i c → IsFree g d.marks c
+    looked_free_all : (t : Span) (w i : ℕ) (c : Cell) → IsSpan g t → slice_get e.known t.number ≡ Some 1 → slice_get e.free.items t.number ≡ Some w → IsCellAt g t i c → IsFree g (marks_of g d) c
         → IsSet w i
     looked_free_all t w i c is' known_is at cell free = elim (cases_eq t.number s.number) [
       | inl same ↦
@@ -244,15 +283,16 @@ module _ (g : Terrain) where
 
     looked_spans : AreSpans g e
     looked_spans = record {
-      marks_fit = ap length looks.marks ∙ spans.marks_fit;
+      marks_fit = ap length looked_marks ∙ spans.marks_fit;
       known_fit = ap length looks.known ∙ (length-set d.known s.number 1 ∙ spans.known_fit);
       free_fit = ap length looks.free ∙ (length-set d.free.items s.number word ∙ spans.free_fit);
       here_fit = ap length looks.here ∙ (length-set d.here.words.items s.number 0 ∙ spans.here_fit);
       next_fit = ap length looks.next ∙ (length-set d.next.words.items s.number 0 ∙ spans.next_fit);
       free_only = λ t w i is' known_is at set below.
-          subst (λ (marks : List ℕ). (c : Cell) × IsCellAt g t i c × IsFree g marks c) (sym looks.marks) (looked_free_only t w i is' known_is at set below);
-      free_all = λ t w i c is' known_is at cell free. looked_free_all t w i c is' known_is at cell (subst (λ (marks : List ℕ). IsFree g marks c) looks.marks free);
-      looked = λ t i k c is' cell counted. known_then t.number (spans.looked t i k c is' cell (subst (λ (marks : List ℕ). IsCounted marks c k) looks.marks counted));
+          subst (λ (marks : List ℕ). (c : Cell) × IsCellAt g t i c × IsFree g marks c) (sym looked_marks) (looked_free_only t w i is' known_is at set below);
+      free_all = λ t w i c is' known_is at cell free. looked_free_all t w i c is' known_is at cell (subst (λ (marks : List ℕ). IsFree g marks c) looked_marks free);
+      looked = λ t i k c is' cell counted. known_then t.number (spans.looked t i k c is' cell (subst (λ (marks : List ℕ). IsCounted marks c k) looked_marks counted));
+      layered = λ many. subst (λ (marks : List ℕ). AreLayers g e.known e.layers marks) (sym looked_marks) (looked_layers (spans.layered (sym looks.few ∙ many)));
       here_listed = rw (looks.known, looks.here, looks.here_spans) (listed_still d.known d.here.words.items s.number in_here unknown d.here.spans.items spans.here_listed);
       next_listed = rw (looks.known, looks.next, looks.next_spans) (listed_still d.known d.next.words.items s.number in_next unknown d.next.spans.items spans.next_listed);
     }
@@ -265,7 +305,7 @@ module _ (g : Terrain) where
         goal = looks.goal;
         toward = looks.toward;
         level = looks.level;
-        marks = looks.marks;
+        marks = looked_marks;
         here = λ c stands. rw (looks.known, looks.here) (stands_still d.known d.here.words.items s.number in_here unknown c stands);
         next = λ c stands. rw (looks.known, looks.next) (stands_still d.known d.next.words.items s.number in_next unknown c stands);
       };
@@ -349,6 +389,7 @@ module _ (g : Terrain) where
       free_only = spans.free_only;
       free_all = spans.free_all;
       looked = spans.looked;
+      layered = spans.layered;
       here_listed = added_listed m.known m.here new s word is known_is added (span_within s new.words.items is (fits ∙ spans.here_fit)) spans.here_listed;
       next_listed = spans.next_listed;
     }
@@ -363,6 +404,7 @@ module _ (g : Terrain) where
       free_only = spans.free_only;
       free_all = spans.free_all;
       looked = spans.looked;
+      layered = spans.layered;
       here_listed = spans.here_listed;
       next_listed = added_listed m.known m.next new s word is known_is added (span_within s new.words.items is (fits ∙ spans.next_fit)) spans.next_listed;
     }
@@ -378,15 +420,15 @@ module _ (g : Terrain) where
     free_at : slice_get m.free.items s.number ≡ Some free
     free_at = slice_get_read m.free.items (length m.free.items) s.number free refl (omega (arith, looked.spans.free_fit, span_inside s is)) free_is
 
-    free_held : (c : Cell) → Holds g s word c → IsFree g d.marks c → Holds g s entered c
+    free_held : (c : Cell) → Holds g s word c → IsFree g (marks_of g d) c → Holds g s entered c
     free_held c (i, set, cell) is_free =
         (i, (both i).1 (set, looked.spans.free_all s free i c is looked.known free_at cell (subst (λ (marks : List ℕ). IsFree g marks c) (sym looked.kept.marks) is_free)), cell)
 
-    held_free : (c : Cell) → Holds g s entered c → Holds g s word c × IsFree g d.marks c
+    held_free : (c : Cell) → Holds g s entered c → Holds g s word c × IsFree g (marks_of g d) c
     held_free c (i, set, cell) =
-        let found : (n : Cell) × IsCellAt g s i n × IsFree g m.marks n = looked.spans.free_only s free i is looked.known free_at ((both i).0 set).1 cell.0 in (
+        let found : (n : Cell) × IsCellAt g s i n × IsFree g (marks_of g m) n = looked.spans.free_only s free i is looked.known free_at ((both i).0 set).1 cell.0 in (
           (i, ((both i).0 set).0, cell),
-          subst (λ (marks : List ℕ). IsFree g marks c) looked.kept.marks (subst (λ (n : Cell). IsFree g m.marks n) (cell_once s i found.0 c found.1 cell) found.2),
+          subst (λ (marks : List ℕ). IsFree g marks c) looked.kept.marks (subst (λ (n : Cell). IsFree g (marks_of g m) n) (cell_once s i found.0 c found.1 cell) found.2),
         )
 
     -- there are none

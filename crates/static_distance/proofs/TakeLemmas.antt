@@ -44,6 +44,7 @@ same_lists g d here spans words items = record {
   free_only = spans.free_only;
   free_all = spans.free_all;
   looked = spans.looked;
+  layered = spans.layered;
   here_listed = subst (λ (xs : List Span). AreListed g d.known here.words.items xs) (sym items) (subst (λ (v : Vec ℕ Global). AreListed g d.known v.items d.here.spans.items) (sym words) spans.here_listed);
   next_listed = spans.next_listed;
 }
@@ -97,6 +98,7 @@ module _ (g : Terrain) (d : Distances) (s : Span) (here : Waiting) (spans : AreS
     free_only = spans.free_only;
     free_all = spans.free_all;
     looked = spans.looked;
+    layered = spans.layered;
     here_listed = record {
       spans_are = λ j t at. spans.here_listed.spans_are j t (subst (λ (xs : List Span). slice_get xs j ≡ Some t) (sym items) (kept_before here.spans.items s t j at));
       listed = still_listed;

@@ -1,5 +1,5 @@
 -- Ways over open cells and static distances: a way can be gone backwards, a distance is unique, and it changes by one at most from cell to cell.
-use Rattle.std.proofs.Common.{◌≡◌, ℕ, ◌+◌, ◌≤◌, refl, arith}
+use Rattle.std.proofs.Common.{◌≡◌, ℕ, ◌+◌, ◌≤◌, arith}
 use Rattle.fleet_base.specs.declared.grid.Cell.{Cell}
 use Rattle.fleet_base.specs.declared.grid.Side.{Side}
 use Rattle.fleet_base.specs.declared.grid.Side.TheVariants.{Up, Left, Right, Down}
@@ -21,11 +21,6 @@ module _ (g : Terrain) where
   pub way_opens_goal : {goal c : Cell} {k : ℕ} → IsWay g goal c k → IsOpen g goal
   way_opens_goal (there opened) = opened
   way_opens_goal (move side opened beside rest) = way_opens_goal rest
-
-  -- a way of no moves stays where it is
-  pub no_move : {goal c : Cell} {k : ℕ} → IsWay g goal c k → k ≡ 0 → c ≡ goal
-  no_move (there opened) none = refl
-  no_move (move side opened beside rest) none = absurd (omega arith)
 
   -- a way that goes on by one move
   pub longer : {goal c next : Cell} {k : ℕ} (side : Side) → IsWay g goal c k → IsBeside g side goal next → IsOpen g next → IsWay g next c (k + 1)

@@ -1,43 +1,49 @@
 -- Distances that are asked for one by one.
-use Rattle.std.specs.Prelude.{◌≡◌, ℕ, ◌+◌, ◌*◌, ◌<◌, ◌≤◌, [], Option, Some, None, length, slice_get}
+use Rattle.std.specs.Prelude.{◌≡◌, ℕ, ◌+◌, ◌*◌, ◌<◌, ◌≤◌, Bool, true, false, List, [], Option, Some, None, length, slice_get}
 use Rattle.fleet_base.specs.declared.grid.Cell.{Cell}
 use Rattle.fleet_base.specs.Terrain.{Terrain}
 use Rattle.static_distance.specs.declared.distances.Distances.{Distances}
 use Rattle.static_distance.specs.declared.span.Span.{Span}
 use Rattle.static_distance.specs.Distance.{IsWay, IsDistance}
 use Rattle.static_distance.specs.Levels.{uncounted}
+use Rattle.static_distance.specs.Marks.{marks_of}
 use Rattle.static_distance.specs.Spreading.{IsFlood}
 use Rattle.static_distance.specs.Spans.{AreSpans, KeepsWaiting, Stands, flood_of}
 
--- how many cells the grids have on which moves are counted
+-- how many cells the grids have on which moves are counted: where they are few, the list has that many
+abbrev pub room_of : Bool → List ℕ → ℕ → ℕ
+room_of true listed cells = length listed
+room_of false listed cells = cells
+
 abbrev pub room : Distances → ℕ
-room d = length d.marks
+room d = room_of d.few d.by_cell d.cells
 
 -- how many spans have cells that wait
 abbrev pub waiting : Distances → ℕ
 waiting d = length d.here.spans.items + length d.next.spans.items
 
 -- a bound of what is left to do
-abbrev pub work : Distances → ℕ
-work d = 6 * uncounted d.marks + waiting d
+abbrev pub work : Terrain → Distances → ℕ
+work g d = 6 * uncounted (marks_of g d) + waiting d
 
 -- all but what is counted stays the same
 pub record KeepsAim (old new : Distances) : Type 0 where
   pub goal : new.goal ≡ old.goal
   pub toward : new.toward ≡ old.toward
-  pub room : length new.marks ≡ length old.marks
+  pub room : room new ≡ room old
 
--- there is a word for so many spans
+-- there is a word for so many spans, and a layer where there are many cells
 pub record AreFitting (count : ℕ) (d : Distances) : Type 0 where
   pub known : length d.known ≡ count
   pub free : length d.free.items ≡ count
   pub here : length d.here.words.items ≡ count
   pub next : length d.next.words.items ≡ count
+  pub layers : d.few ≡ false → length d.layers.newest.items ≡ count
 
 -- the moves to the goal are counted on that grid
 pub record IsAimed (g : Terrain) (d : Distances) : Type 0 where
   pub near : (d.toward.column < 2048) × (d.toward.row < 2048)
-  pub bounded : d.level + 2 * work d ≤ 16777216
+  pub bounded : d.level + 2 * work g d ≤ 16777216
   pub spans : AreSpans g d
   pub flood : IsFlood g (flood_of g d)
 

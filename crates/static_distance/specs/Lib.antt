@@ -1,7 +1,6 @@
 pub mod Distance
 pub mod Levels
-pub mod Batches
-pub mod BatchList
+pub mod Layers
 pub mod Marks
 pub mod Waiting
 pub mod Spreading

@@ -1,7 +1,8 @@
-ghost use Rattle.std.specs.Prelude.{◌≡◌, ◌≢◌, ℕ, ◌+◌, ◌*◌, ◌<◌, ◌≤◌, ◌↔◌, [], ◌∷◌, ◌++◌, length, min, Some, IfOk, OnOk, IfSome, IfNone, IsTrue, slice_get};
+ghost use Rattle.std.specs.Prelude.{◌≡◌, ◌≢◌, ℕ, false, ◌+◌, ◌*◌, ◌<◌, ◌≤◌, ◌↔◌, [], ◌∷◌, ◌++◌, length, min, Some, IfOk, OnOk, IfSome, IfNone, IsTrue, slice_get};
 ghost use Rattle.std.specs.Bool.{OnTrue, OnFalse};
 
-use crate::marking::Marks;
+use crate::layers::Layers;
+use crate::marking::{FEW, mark_each};
 use crate::place::{Place, moves_between, place_of};
 use crate::span::{Span, cells_of, span_at, stride};
 use crate::waiting::Waiting;
@@ -19,11 +20,17 @@ pub struct Distances {
     alloc: Global,
     goal: Cell,
     toward: Place,
-    // 1 plus the moves of each cell that is counted, else 0.
-    marks: Marks,
+    // How many cells the grids have. Where these are few a list has 1 plus the moves of each that is counted, else 0, so that
+    // they are one read.
+    cells: usize,
+    few: bool,
+    by_cell: StampedList,
     // By the number of a span: 1 where it was looked at since the last aim, and then its cells that are open and not counted.
     known: StampedList,
     free: Vec<u64>,
+    // Where there are many cells the levels of those that are counted, which touch less memory. A cell's moves are its level less
+    // the moves to `toward` if all cells were open.
+    layers: Layers,
     // The moves of the cells of `here` to the goal, and those to `toward` if all cells were open, add up to `level`;
     // those of `next` to `level + 2`. Cells may stand in them that were counted meanwhile.
     level: u32,
@@ -38,9 +45,10 @@ impl Distances {
     ghost use Rattle.row_words.specs.Words.{IsSet};
     ghost use Rattle.fleet_base.specs.declared.grid.Side.TheVariants.{Up, Left, Right, Down};
     ghost use Rattle.static_distance.specs.Distance.{IsDistance};
-    ghost use Rattle.static_distance.specs.Levels.{IsPlaceOf, apart, uncounted};
+    ghost use Rattle.static_distance.specs.Levels.{IsPlaceOf, IsCounted, apart, uncounted};
+    ghost use Rattle.static_distance.specs.Marks.{marks_of};
     ghost use Rattle.static_distance.specs.Spreading.{IsFlood};
-    ghost use Rattle.static_distance.specs.Spans.{stride, IsSpan, Holds, IsFree, AreSpans, flood_of, flood_with, HasEntered, HasSpreadTo, HasCounted, IsShut};
+    ghost use Rattle.static_distance.specs.Spans.{IsSpan, Holds, IsFree, AreSpans, flood_of, flood_with, HasEntered, HasSpreadTo, HasCounted, IsShut};
     ghost use Rattle.static_distance.specs.Rows.{HasMore, IsLedWithin, IsLedOut};
     ghost use Rattle.static_distance.specs.Aim.{room, waiting, work, KeepsAim, IsAimed, AnswersDistance, IsWithin, AreFitting, HasLooked, HasNoMore};
 
@@ -48,13 +56,18 @@ impl Distances {
     pub fn new(alloc: Global, cells: usize) -> Result<Distances, Memory>
         ensures { IfOk result (λ d. room d ≡ cells) }
     {
+        let few = cells <= FEW;
+        let listed = if few { cells } else { 0 };
         Ok(Distances {
             alloc,
             goal: Cell(0),
             toward: Place { column: 0, row: 0 },
-            marks: Marks::new(alloc, cells)?,
+            cells,
+            few,
+            by_cell: StampedList::new(alloc, listed)?,
             known: StampedList::new(alloc, 0)?,
             free: Vec::new(alloc),
+            layers: Layers::new(alloc, 0)?,
             level: 0,
             here: Waiting::new(alloc, 0)?,
             next: Waiting::new(alloc, 0)?,
@@ -64,10 +77,14 @@ impl Distances {
     // Room for so many spans. It is there already unless the grids have other sizes.
     fn fit(&mut self, count: usize) -> Result<(), Memory>
         ensures fit { OnOk result (AreFitting count self.new) }
-        ensures marks { self.new.marks ≡ self.old.marks }
+        ensures cells { self.new.cells ≡ self.old.cells }
+        ensures few { self.new.few ≡ self.old.few }
+        ensures listed { self.new.by_cell ≡ self.old.by_cell }
     {
+        let layered = if self.few { 0 } else { count };
         if self.known.len() == count
             && self.free.len() == count
+            && self.layers.len() == layered
             && self.here.words.len() == count
             && self.next.words.len() == count
         {
@@ -75,6 +92,7 @@ impl Distances {
         }
         self.known = StampedList::new(self.alloc, count)?;
         self.free = vec![in self.alloc; 0; count]?;
+        self.layers = Layers::new(self.alloc, layered)?;
         self.here = Waiting::new(self.alloc, count)?;
         self.next = Waiting::new(self.alloc, count)?;
         Ok(())
@@ -96,7 +114,8 @@ impl Distances {
         self.goal = goal;
         self.toward = place_of(grid, toward);
         self.level = moves_between(place, self.toward);
-        self.marks.clear();
+        self.by_cell.clear();
+        self.layers.clear();
         self.known.clear();
         self.here.spans.clear();
         self.next.spans.clear();
@@ -117,19 +136,11 @@ impl Distances {
         ensures goal { self.new.goal ≡ self.old.goal }
         ensures room { room self.new ≡ room self.old }
     {
-        if !grid.is_open(cell) {
-            return Ok(None);
-        }
-        match self.marks.moves(cell.0) {
-            Some(moves) => Ok(Some(moves)),
-            None => {
-                let place = place_of(grid, cell);
-                self.count_to(grid, cell, place)
-            }
-        }
+        let place = place_of(grid, cell);
+        self.to_goal_at(grid, cell, place)
     }
 
-    /// The same where the cell's place is known: so it divides nothing where the cell isn't counted yet, either.
+    /// The same where the cell's place is known: so it divides nothing.
     #[inline(always)]
     pub fn to_goal_at(
         &mut self,
@@ -148,7 +159,7 @@ impl Distances {
         if !grid.is_open(cell) {
             return Ok(None);
         }
-        match self.marks.moves(cell.0) {
+        match self.moves_at(grid, cell, place) {
             Some(moves) => Ok(Some(moves)),
             None => self.count_to(grid, cell, place),
         }
@@ -176,7 +187,7 @@ impl Distances {
         if !grid.is_open(cell) {
             return Ok(None);
         }
-        match self.marks.moves(cell.0) {
+        match self.moves_at(grid, cell, place) {
             Some(moves) => Ok(Some(moves)),
             None => {
                 let _limits = grid.cells();
@@ -202,7 +213,7 @@ impl Distances {
                 return Ok(None);
             }
         }
-        Ok(self.marks.moves(cell.0))
+        Ok(self.moves_at(grid, cell, place))
     }
 
     // Counts moves until an open cell has them, or until all cells on the level of one beside it have: with a move less than from there
@@ -233,7 +244,7 @@ impl Distances {
                 return Ok(None);
             }
         }
-        Ok(self.marks.moves(cell.0))
+        Ok(self.moves_at(grid, cell, place))
     }
 
     /// Whether a way of so many moves leads from a cell to the goal, or of fewer. It counts no farther than that takes.
@@ -245,13 +256,13 @@ impl Distances {
         ensures goal { self.new.goal ≡ self.old.goal }
         ensures room { room self.new ≡ room self.old }
     {
-        if let Some(counted) = self.marks.moves(cell.0) {
-            return Ok(counted <= moves);
-        }
         if !grid.is_open(cell) {
             return Ok(false);
         }
         let place = place_of(grid, cell);
+        if let Some(counted) = self.moves_at(grid, cell, place) {
+            return Ok(counted <= moves);
+        }
         let last = moves.saturating_add(moves_between(place, self.toward));
         while self.is_free(grid, cell, place) {
             if self.level > last {
@@ -261,23 +272,63 @@ impl Distances {
                 return Ok(false);
             }
         }
-        match self.marks.moves(cell.0) {
+        match self.moves_at(grid, cell, place) {
             Some(counted) => Ok(counted <= moves),
             None => Ok(false),
         }
     }
 
-    // Whether an open cell isn't counted yet. Its span's word says so at once, where marks may have to be looked for.
+    // Whether an open cell isn't counted yet. Its span's word says so at once, where its level may have to be looked for.
     #[inline(always)]
     fn is_free(&self, grid: &Grid, cell: Cell, place: Place) -> bool
         requires cell { IsOpen grid.now cell }
         requires place { IsPlaceOf grid.now cell place }
         requires spans { AreSpans grid.now self.now }
-        ensures { IsTrue result ↔ (slice_get self.now.marks cell.0 ≡ Some 0) }
+        ensures { IsTrue result ↔ (slice_get (marks_of grid.now self.now) cell.0 ≡ Some 0) }
     {
         let span = span_at(grid, cell, place);
         let number = span.number as usize;
         self.known.get(number) != 1 || is_set(self.free[number], place.column - span.column)
+    }
+
+    // The moves of an open cell, or none where it isn't counted.
+    #[inline(always)]
+    fn moves_at(&self, grid: &Grid, cell: Cell, place: Place) -> Option<u32>
+        requires cell { IsOpen grid.now cell }
+        requires place { IsPlaceOf grid.now cell place }
+        requires near { (self.now.toward.column < 2048) × (self.now.toward.row < 2048) }
+        requires spans { AreSpans grid.now self.now }
+        ensures some { IfSome result (λ k. IsCounted (marks_of grid.now self.now) cell k) }
+        ensures none { IfNone result (slice_get (marks_of grid.now self.now) cell.0 ≡ Some 0) }
+    {
+        if self.few {
+            let mark = self.by_cell.get(cell.0 as usize);
+            if mark == 0 {
+                return None;
+            }
+            return Some(mark - 1);
+        }
+        if self.is_free(grid, cell, place) {
+            return None;
+        }
+        Some(self.moves_of(grid, cell, place))
+    }
+
+    // The moves of a cell that is counted, where there are many.
+    #[inline(always)]
+    fn moves_of(&self, grid: &Grid, cell: Cell, place: Place) -> u32
+        requires many { self.now.few ≡ false }
+        requires cell { IsOpen grid.now cell }
+        requires place { IsPlaceOf grid.now cell place }
+        requires near { (self.now.toward.column < 2048) × (self.now.toward.row < 2048) }
+        requires spans { AreSpans grid.now self.now }
+        requires counted { ¬ (slice_get (marks_of grid.now self.now) cell.0 ≡ Some 0) }
+        ensures { IsCounted (marks_of grid.now self.now) cell result }
+    {
+        let _limits = grid.cells();
+        let span = span_at(grid, cell, place);
+        let level = self.layers.level_at(span.number as usize, place.column - span.column);
+        level.saturating_sub(moves_between(place, self.toward))
     }
 
     // Counts the waiting cells of one span more, or finds that they were counted before. False where none waits.
@@ -285,7 +336,7 @@ impl Distances {
         requires { IsAimed grid.now self.old }
         ensures aim { KeepsAim self.old self.new }
         ensures aimed { OnOk result (IsAimed grid.now self.new) }
-        ensures more { IfOk result (λ went. OnTrue went (work self.new < work self.old)) }
+        ensures more { IfOk result (λ went. OnTrue went (work grid.now self.new < work grid.now self.old)) }
         ensures none { IfOk result (λ went. OnFalse went (HasNoMore self.old self.new)) }
     {
         self.rise();
@@ -303,7 +354,7 @@ impl Distances {
     fn rise(&mut self)
         requires { self.old.level ≤ 16777216 }
         ensures aim { KeepsAim self.old self.new }
-        ensures marks { self.new.marks ≡ self.old.marks }
+        ensures marks { (g : Terrain) → marks_of g self.new ≡ marks_of g self.old }
         ensures risen { self.new.level ≤ self.old.level + 2 }
         ensures count { waiting self.new ≡ waiting self.old }
         ensures spans { (g : Terrain) → AreSpans g self.old → AreSpans g self.new }
@@ -327,13 +378,26 @@ impl Distances {
     fn look_at(&mut self, grid: &Grid, span: Span)
         requires span { IsSpan grid.now span }
         requires spans { AreSpans grid.now self.old }
+        ensures aim { KeepsAim self.old self.new }
+        ensures looked { HasLooked grid.now span self.old self.new }
+    {
+        if self.known.get(span.number as usize) != 1 {
+            self.look_first(grid, span);
+        }
+    }
+
+    // Looks at the cells of a span for the first time. It is a function of its own so that `look_at` is short where it is called.
+    #[inline(never)]
+    fn look_first(&mut self, grid: &Grid, span: Span)
+        requires span { IsSpan grid.now span }
+        requires spans { AreSpans grid.now self.old }
+        requires first { slice_get self.old.known span.number ≢ Some 1 }
+        ensures aim { KeepsAim self.old self.new }
         ensures looked { HasLooked grid.now span self.old self.new }
     {
         let number = span.number as usize;
-        if self.known.get(number) == 1 {
-            return;
-        }
         self.free[number] = open_places(cells_of(grid, span));
+        self.layers.begin(number);
         self.here.words[number] = 0;
         self.next.words[number] = 0;
         self.known.set(number, 1);
@@ -345,7 +409,7 @@ impl Distances {
         requires span { IsSpan grid.now span }
         requires spans { AreSpans grid.now self.old }
         ensures aim { KeepsAim self.old self.new }
-        ensures marks { self.new.marks ≡ self.old.marks }
+        ensures marks { marks_of grid.now self.new ≡ marks_of grid.now self.old }
         ensures spans { OnOk result (AreSpans grid.now self.new) }
         ensures count { OnOk result (waiting self.new ≤ waiting self.old + 1) }
         ensures entered { OnOk result (HasEntered grid.now span word closer self.old self.new) }
@@ -375,7 +439,7 @@ impl Distances {
         ensures level { OnOk result (self.new.level ≡ self.old.level) }
         ensures spans { OnOk result (AreSpans grid.now self.new) }
         ensures flood { OnOk result (IsFlood grid.now (flood_of grid.now self.new)) }
-        ensures work { OnOk result (work self.new ≤ work self.old) }
+        ensures work { OnOk result (work grid.now self.new ≤ work grid.now self.old) }
     {
         let free = self.free[span.number as usize];
         let rising = self.rising(span);
@@ -427,19 +491,23 @@ impl Distances {
         ensures aim { KeepsAim self.old self.new }
         ensures counted { OnOk result (HasCounted grid.now span word self.old self.new) }
         ensures spans { OnOk result (AreSpans grid.now self.new) }
-        ensures less { OnOk result (uncounted self.new.marks + 1 ≤ uncounted self.old.marks) }
+        ensures less { OnOk result (uncounted (marks_of grid.now self.new) + 1 ≤ uncounted (marks_of grid.now self.old)) }
     {
         let _limits = grid.cells();
         let number = span.number as usize;
+        self.free[number] = without(self.free[number], word);
+        if !self.few {
+            return self.layers.add(number, word, self.level);
+        }
         let reach = self.level - span.row.abs_diff(self.toward.row);
-        self.marks.mark_all(
+        mark_each(
+            &mut self.by_cell,
             grid.width() * span.row + span.column,
             word,
             span.column,
             self.toward.column,
             reach,
-        )?;
-        self.free[number] = without(self.free[number], word);
+        );
         Ok(())
     }
 
@@ -449,7 +517,7 @@ impl Distances {
         ensures spans { OnOk result (AreSpans grid.now self.new) }
         ensures count { OnOk result (waiting self.new ≤ waiting self.old + 1) }
         ensures aim { KeepsAim self.old self.new }
-        ensures marks { self.new.marks ≡ self.old.marks }
+        ensures marks { marks_of grid.now self.new ≡ marks_of grid.now self.old }
         ensures spread { OnOk result (HasSpreadTo grid.now Up span word self.old self.new) }
     {
         if span.row == 0 {
@@ -469,7 +537,7 @@ impl Distances {
         ensures spans { OnOk result (AreSpans grid.now self.new) }
         ensures count { OnOk result (waiting self.new ≤ waiting self.old + 1) }
         ensures aim { KeepsAim self.old self.new }
-        ensures marks { self.new.marks ≡ self.old.marks }
+        ensures marks { marks_of grid.now self.new ≡ marks_of grid.now self.old }
         ensures spread { OnOk result (HasSpreadTo grid.now Down span word self.old self.new) }
     {
         let _limits = grid.cells();
@@ -504,7 +572,7 @@ impl Distances {
         ensures spans { OnOk result (AreSpans grid.now self.new) }
         ensures count { OnOk result (waiting self.new ≤ waiting self.old + 1) }
         ensures aim { KeepsAim self.old self.new }
-        ensures marks { self.new.marks ≡ self.old.marks }
+        ensures marks { marks_of grid.now self.new ≡ marks_of grid.now self.old }
         ensures spread { OnOk result (HasMore grid.now (λ on n. IsLedWithin grid.now span word self.old on n) self.old self.new) }
     {
         let away = either(
@@ -521,7 +589,7 @@ impl Distances {
         ensures spans { OnOk result (AreSpans grid.now self.new) }
         ensures count { OnOk result (waiting self.new ≤ waiting self.old + 1) }
         ensures aim { KeepsAim self.old self.new }
-        ensures marks { self.new.marks ≡ self.old.marks }
+        ensures marks { marks_of grid.now self.new ≡ marks_of grid.now self.old }
         ensures spread { OnOk result (HasMore grid.now (λ on n. IsLedOut grid.now Left span word self.old on n) self.old self.new) }
     {
         if span.column == 0 || !is_set(word, 0) {
@@ -542,7 +610,7 @@ impl Distances {
         ensures spans { OnOk result (AreSpans grid.now self.new) }
         ensures count { OnOk result (waiting self.new ≤ waiting self.old + 1) }
         ensures aim { KeepsAim self.old self.new }
-        ensures marks { self.new.marks ≡ self.old.marks }
+        ensures marks { marks_of grid.now self.new ≡ marks_of grid.now self.old }
         ensures spread { OnOk result (HasMore grid.now (λ on n. IsLedOut grid.now Right span word self.old on n) self.old self.new) }
     {
         let _limits = grid.cells();

@@ -1,7 +1,8 @@
 ghost use Rattle.std.specs.Prelude.{◌≡◌, ℕ, ◌+◌, ◌-◌, ◌*◌, ◌<◌, ◌≤◌, Bool, Some, length, slice_get};
 ghost use Rattle.fleet_base.specs.declared.grid.Cell.{Cell as ACell};
 ghost use Rattle.static_distance.specs.Levels.{IsPlaceOf};
-ghost use Rattle.static_distance.specs.Spans.{stride, IsSpan, IsCellAt};
+ghost use Rattle.static_distance.specs.Marks.{stride};
+ghost use Rattle.static_distance.specs.Spans.{IsSpan, IsCellAt};
 
 use crate::place::Place;
 use fleet_base::{Cell, Grid};

@@ -1,9 +1,7 @@
-ghost use Rattle.std.specs.Prelude.{◌≡◌, ℕ, ◌+◌, ◌^◌, ◌<◌, ◌≤◌, Some, length, replicate, slice_get, IfOk, OnOk};
+ghost use Rattle.std.specs.Prelude.{◌≡◌, ◌<◌, length, IfOk};
 ghost use Rattle.static_distance.specs.Aim.{room};
 
 use super::*;
-use crate::batches::Batches;
-use crate::marking::Marks;
 use fleet_base::{Cell, Grid, Memory, Side};
 use std::alloc::{AllocError, Global};
 
@@ -212,63 +210,55 @@ fn tells_cells_over_a_seam(rt: HostRuntime) {
     assert!(rt; out);
 }
 
-// Marks the cells of a word of 16 places from one on, in a list and in batches. No cell from there on has a mark.
-fn mark_both(
-    listed: &mut Marks,
-    batched: &mut Batches,
-    first: u32,
-    word: u64,
-    reach: u32,
-) -> Result<(), Memory>
-    requires small { (word < 2 ^ 16) × (first < 200) × (reach < 1000) }
-    requires count { (length listed.old ≡ 300) × (length batched.old ≡ 300) }
-    requires free { (n : ℕ) → first ≤ n → n < 300 → (slice_get listed.old n ≡ Some 0) × (slice_get batched.old n ≡ Some 0) }
-    ensures count { (length listed.new ≡ 300) × (length batched.new ≡ 300) }
-    ensures free { OnOk result ((n : ℕ) → first + 16 ≤ n → n < 300 → (slice_get listed.new n ≡ Some 0) × (slice_get batched.new n ≡ Some 0)) }
+// Seven columns and two rows; in the upper row each second cell is closed.
+fn comb(alloc: Global) -> Result<Grid, AllocError>
+    ensures { IfOk result (λ g. length g.cells ≡ 14) }
 {
-    listed.mark_all(first, word, first, 100, reach)?;
-    batched.mark_all(first, word, first, 100, reach)
+    let cells = Vec::from_array(
+        alloc,
+        [
+            true, false, true, false, true, false, true, true, true, true, true, true, true, true,
+        ],
+    )?;
+    Ok(Grid::new(7, 2, cells))
 }
 
-// Words on five levels, the last two of which have two words each, and one word over the border of 64 cells.
-fn mark_words(listed: &mut Marks, batched: &mut Batches) -> Result<(), Memory>
-    requires none { (listed.old ≡ replicate 300 0) × (batched.old ≡ replicate 300 0) }
-    ensures count { (length listed.new ≡ 300) × (length batched.new ≡ 300) }
-{
-    mark_both(listed, batched, 3, 0b1000_0001_0110_1011, 400)?;
-    mark_both(listed, batched, 19, 0b0111_1110_1001_0101, 500)?;
-    mark_both(listed, batched, 35, 0b0000_0000_0000_0011, 600)?;
-    mark_both(listed, batched, 51, 0b1111_0000_1111_0001, 700)?;
-    mark_both(listed, batched, 67, 0b1000_0000_0000_0001, 700)?;
-    mark_both(listed, batched, 83, 0b0000_0000_1111_1111, 800)?;
-    mark_both(listed, batched, 99, 0b1010_1010_1010_1010, 800)
-}
-
-// Whether all marks of a list and of batches are the same.
-fn are_same(listed: &Marks, batched: &Batches) -> bool
-    requires count { (length listed.now ≡ 300) × (length batched.now ≡ 300) }
-{
-    for cell in 0..300 {
-        if listed.moves(cell) != batched.moves(cell) {
-            return false;
-        }
-    }
-    true
-}
-
-// A list and batches have the same marks, before they are cleared and after that; six cells were told by hand.
+// Counted by hand: each open cell of the upper row is counted on a level of its own, and its distance is told after the later
+// ones were counted, too, and at the next aim.
 #[test]
-fn list_and_batches_tell_the_same(rt: HostRuntime) {
-    let mut listed = Marks::new(rt.alloc(), 300).expect(&rt, "memory");
-    let mut batched = Batches::new(rt.alloc(), 300).expect(&rt, "memory");
-    mark_words(&mut listed, &mut batched).expect(&rt, "memory");
-    assert!(rt; are_same(&listed, &batched));
-    let near = (batched.moves(3), batched.moves(19), batched.moves(36));
-    assert_eq!(rt; near, (Some(303), Some(419), Some(536)));
-    let far = (batched.moves(66), batched.moves(100), batched.moves(101));
-    assert_eq!(rt; far, (Some(666), Some(800), None));
-    listed.clear();
-    batched.clear();
-    assert!(rt; are_same(&listed, &batched));
-    assert_eq!(rt; batched.moves(66), None);
+fn tells_all_levels_of_a_span(rt: HostRuntime) {
+    let grid = comb(rt.alloc()).expect(&rt, "memory");
+    let mut distances = Distances::new(rt.alloc(), 14).expect(&rt, "memory");
+    let second = two(&mut distances, &grid, 0, 0, (6, 2)).expect(&rt, "memory");
+    assert_eq!(rt; second, (Some(8), Some(4)));
+    let first = two(&mut distances, &grid, 0, 0, (6, 0)).expect(&rt, "memory");
+    assert_eq!(rt; first, (Some(8), Some(0)));
+    let back = two(&mut distances, &grid, 6, 6, (0, 4)).expect(&rt, "memory");
+    assert_eq!(rt; back, (Some(8), Some(4)));
+}
+
+// So many cells that layers have their levels: 2,000 columns and 17 rows; the upper row begins as the one of seven columns.
+fn long_comb(alloc: Global) -> Result<Grid, AllocError>
+    ensures { IfOk result (λ g. length g.cells ≡ 34000) }
+{
+    let mut cells = vec![in alloc; true; 34000]?;
+    cells[1] = false;
+    cells[3] = false;
+    cells[5] = false;
+    Ok(Grid::new(2000, 17, cells))
+}
+
+// Counted by hand: the same, and the distances of the last cells of the first row and of the last one.
+#[test]
+fn tells_all_levels_of_many_cells(rt: HostRuntime) {
+    let grid = long_comb(rt.alloc()).expect(&rt, "memory");
+    let mut distances = Distances::new(rt.alloc(), 34000).expect(&rt, "memory");
+    let second = two(&mut distances, &grid, 0, 0, (6, 2)).expect(&rt, "memory");
+    assert_eq!(rt; second, (Some(8), Some(4)));
+    let far = two(&mut distances, &grid, 0, 33999, (1999, 33999)).expect(&rt, "memory");
+    assert_eq!(rt; far, (Some(2001), Some(2015)));
+    let closed = two(&mut distances, &grid, 6, 6, (3, 4)).expect(&rt, "memory");
+    assert_eq!(rt; closed, (None, Some(4)));
+    let back = two(&mut distances, &grid, 33999, 0, (0, 4)).expect(&rt, "memory");
+    assert_eq!(rt; back, (Some(2015), Some(2011)));
 }

@@ -1,7 +1,7 @@
 use Rattle.std.proofs.Common.{◌≡◌, ℕ, suc, ◌+◌, ◌-◌, ◌<◌, length, arith, ap, ◌∙◌}
 use Rattle.std.proofs.lemmas.List.{length-set}
 use Rattle.static_distance.specs.Levels.{gap}
-use Rattle.static_distance.proofs.MarkLemmas.{one_less, still_left, one_marked, one_others}
+use Rattle.static_distance.proofs.ListLemmas.{one_less, still_left, one_marked, one_others}
 use Rattle.static_distance.proofs.marking.mark_each.Goals as goal
 
 pub loop-place-smaller : goal.loop-place-smaller

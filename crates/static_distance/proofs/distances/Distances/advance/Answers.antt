@@ -5,6 +5,7 @@ use Rattle.std.proofs.lemmas.Option.{slice_get_read}
 use Rattle.static_distance.specs.declared.span.Span.{Span}
 use Rattle.static_distance.specs.declared.place.Place.{Place}
 use Rattle.static_distance.specs.Levels.{uncounted}
+use Rattle.static_distance.specs.Marks.{marks_of}
 use Rattle.static_distance.proofs.FloodLemmas.{no_items}
 use Rattle.static_distance.proofs.TakeLemmas.{same_lists, taken_span, taken_known, taken_within, taken_spans, taken_flood}
 use Rattle.static_distance.proofs.distances.Distances.advance.Goals as goal
@@ -55,7 +56,7 @@ returns-in_default-clause-aimed c =
     let len : vec_len r.here.spans ≡ length r.here.spans.items = search rules in
     let none : r.here.spans.items ≡ [] = no_items r.here.spans.items (sym len ∙ c.in_default.ensures.cases.0) in
     let more = c.rise.ensures.none none in
-    let marks : uncounted r.marks ≡ uncounted c.args.self.now.marks = ap uncounted c.rise.ensures.marks in
+    let marks : uncounted (marks_of g r) ≡ uncounted (marks_of g c.args.self.now) = ap uncounted (c.rise.ensures.marks g) in
     record {
       near = subst (λ (p : Place). (p.column < 2048) × (p.row < 2048)) (sym c.rise.ensures.aim.toward) c.requires.near;
       bounded = omega (arith, c.requires.bounded, c.rise.ensures.count, more.level);

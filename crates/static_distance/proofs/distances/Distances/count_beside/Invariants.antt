@@ -1,14 +1,14 @@
-use Rattle.std.proofs.Common.{◌≡◌, length}
-use Rattle.static_distance.specs.Aim.{work, IsAimed}
+use Rattle.std.proofs.Common.{◌≡◌}
+use Rattle.static_distance.specs.Aim.{room, work, IsAimed}
 use Rattle.static_distance.proofs.distances.Distances.count_beside.Given as goal
 
-abbrev pub invariant-loop-place : goal.invariant-loop-place
-invariant-loop-place l = record {
+abbrev pub invariant-loop-cell : goal.invariant-loop-cell
+invariant-loop-cell l = record {
   aimed : IsAimed l.grid l.self;
   goal : l.self.goal ≡ l.initial.self.goal;
   toward : l.self.toward ≡ l.initial.self.toward;
-  room : length l.self.marks ≡ length l.initial.self.marks;
+  room : room l.self ≡ room l.initial.self;
 }
 
-abbrev pub decreases-loop-place : goal.decreases-loop-place
-decreases-loop-place l = work l.self
+abbrev pub decreases-loop-cell : goal.decreases-loop-cell
+decreases-loop-cell l = work l.grid l.self

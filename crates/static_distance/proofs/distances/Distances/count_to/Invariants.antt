@@ -1,13 +1,13 @@
-use Rattle.std.proofs.Common.{◌≡◌, length}
-use Rattle.static_distance.specs.Aim.{work, IsAimed}
+use Rattle.std.proofs.Common.{◌≡◌}
+use Rattle.static_distance.specs.Aim.{room, work, IsAimed}
 use Rattle.static_distance.proofs.distances.Distances.count_to.Given as goal
 
-abbrev pub invariant-loop-place : goal.invariant-loop-place
-invariant-loop-place l = record {
+abbrev pub invariant-loop-self : goal.invariant-loop-self
+invariant-loop-self l = record {
   aimed : IsAimed l.grid l.self;
   goal : l.self.goal ≡ l.initial.self.goal;
-  room : length l.self.marks ≡ length l.initial.self.marks;
+  room : room l.self ≡ room l.initial.self;
 }
 
-abbrev pub decreases-loop-place : goal.decreases-loop-place
-decreases-loop-place l = work l.self
+abbrev pub decreases-loop-self : goal.decreases-loop-self
+decreases-loop-self l = work l.grid l.self

@@ -15,11 +15,11 @@ returns-then-self-last-clause-within c = (
   λ yes. absurd (false≢true yes),
   λ within.
       (let g = c.args.grid.now in
-      let d = c.loop-place.self in
-      let free = c.is_free.ensures.0 c.loop-place-test.true in
-      let way : IsWay g d.goal c.args.cell within.0 = subst (λ (z : Cell). IsWay g z c.args.cell within.0) (sym c.loop-place.invariant.goal) within.1 in
-      let far : d.level ≤ within.0 + apart g d.toward c.args.cell = flood_far g (flood_of g d) c.loop-place.invariant.aimed.flood c.args.cell free within.0 way in
-      let far' : d.level ≤ within.0 + apart g c.args.self.now.toward c.args.cell = subst (λ (p : Place). d.level ≤ within.0 + apart g p c.args.cell) c.loop-place.invariant.toward far in
+      let d = c.loop-cell.self in
+      let free = c.is_free.ensures.0 c.loop-cell-test.true in
+      let way : IsWay g d.goal c.args.cell within.0 = subst (λ (z : Cell). IsWay g z c.args.cell within.0) (sym c.loop-cell.invariant.goal) within.1 in
+      let far : d.level ≤ within.0 + apart g d.toward c.args.cell = flood_far g (flood_of g d) c.loop-cell.invariant.aimed.flood c.args.cell free within.0 way in
+      let far' : d.level ≤ within.0 + apart g c.args.self.now.toward c.args.cell = subst (λ (p : Place). d.level ≤ within.0 + apart g p c.args.cell) c.loop-cell.invariant.toward far in
       absurd (omega (arith, within.2, c.moves_between.ensures.moves, c.place_of-place.ensures.place, c.saturating_add-last.ensures, c.if-self-last.true))),
 )
 
@@ -28,14 +28,14 @@ returns-then-not-branch-clause-within c = (
   λ yes. absurd (false≢true yes),
   λ within.
       (let none = rw c.if-not-branch.true at c.in_ok-advance.ensures.none in
-      let free = c.is_free.ensures.0 c.loop-place-test.true in
+      let free = c.is_free.ensures.0 c.loop-cell-test.true in
       let g = c.args.grid.now in
-      let d = c.loop-place.self in
-      let aimed = c.loop-place.invariant.aimed in
+      let d = c.loop-cell.self in
+      let aimed = c.loop-cell.invariant.aimed in
       absurd (flood_no_way g (flood_of g d) aimed.flood
       (λ z stands. none_stand g d.known d.here.words.items d.here.spans.items z aimed.spans.here_listed none.here stands)
       (λ z stands. none_stand g d.known d.next.words.items d.next.spans.items z aimed.spans.next_listed none.next stands) c.args.cell free within.0
-      (subst (λ (z : Cell). IsWay g z c.args.cell within.0) (sym c.loop-place.invariant.goal) within.1))),
+      (subst (λ (z : Cell). IsWay g z c.args.cell within.0) (sym c.loop-cell.invariant.goal) within.1))),
 )
 
 pub returns-in-Some-clause-within : goal.returns-in-Some-clause-within
@@ -48,13 +48,13 @@ returns-in-Some-clause-within c =
       (λ within. le-leb moves c.args.moves (near_within distance within)),
     )
 
-pub returns-in-Some-moves-clause-within : goal.returns-in-Some-moves-clause-within
-returns-in-Some-moves-clause-within c =
+pub returns-in-Some-moves_at-clause-within : goal.returns-in-Some-moves_at-clause-within
+returns-in-Some-moves_at-clause-within c =
     let g = c.args.grid.now in
-    let d = c.loop-place.self in
-    let moves = c.in-Some-moves.counted in
-    let distance : IsDistance g c.args.self.now.goal c.args.cell moves = subst (λ (z : Cell). IsDistance g z c.args.cell moves) c.loop-place.invariant.goal
-    (flood_distance g (flood_of g d) c.loop-place.invariant.aimed.flood c.args.cell moves c.in-Some-moves.ensures.some) in (
+    let d = c.loop-cell.self in
+    let moves = c.in-Some-moves_at.counted in
+    let distance : IsDistance g c.args.self.now.goal c.args.cell moves = subst (λ (z : Cell). IsDistance g z c.args.cell moves) c.loop-cell.invariant.goal
+    (flood_distance g (flood_of g d) c.loop-cell.invariant.aimed.flood c.args.cell moves c.in-Some-moves_at.ensures.some) in (
       (λ yes. within_near distance (leb-true moves c.args.moves yes)),
       (λ within. le-leb moves c.args.moves (near_within distance within)),
     )
