@@ -289,8 +289,10 @@ module _ (g : Terrain) (old : Distances) (s : Span) (word : ℕ) (is : IsSpan g 
           word_cases : (t : Span) (w : ℕ) → IsSpan g t → slice_get (set old.free.items s.number rest) t.number ≡ Some w
               → ((s ≡ t) × (w ≡ rest)) ⊎ (¬ (s ≡ t) × (slice_get old.free.items t.number ≡ Some w))
           word_cases t w it at = elim (cases_eq t.number s.number) [
-            | inl same ↦ inl (span_once g s t is it (sym same),
-                same_Some w rest (sym at ∙ (ap (slice_get (set old.free.items s.number rest)) same ∙ set_here old.free.items s.number rest number_in)))
+            | inl same ↦ inl (
+              span_once g s t is it (sym same),
+              same_Some w rest (sym at ∙ (ap (slice_get (set old.free.items s.number rest)) same ∙ set_here old.free.items s.number rest number_in)),
+            )
             | inr other ↦ inr (λ e. other (ap (λ (z : Span). z.number) (sym e)), sym (set_there old.free.items s.number t.number rest other) ∙ at)
           ]
 

@@ -125,7 +125,7 @@ module _ (old new : Layers) (number : ℕ) (layer : Layer) (inside : number < le
       let now : Layer = record { word = word; level = level; older = from } in
       let all : List Layer = old.older.items ++ before ∷ [] in
       let here : (place : ℕ) → told new number place ≡ told_from all now place = λ place.
-          told_here place ∙ (ap (λ (z : Layer). told_from new.older.items z place) layer_is ∙ ap (λ (xs : List Layer). told_from xs now place) items) in
+      told_here place ∙ (ap (λ (z : Layer). told_from new.older.items z place) layer_is ∙ ap (λ (xs : List Layer). told_from xs now place) items) in
       let count : length new.older.items ≡ length old.older.items + 1 = ap length items ∙ length-append old.older.items (before ∷ []) in
       let leads : layer.older ≤ length new.older.items = subst (λ (z : Layer). z.older ≤ length new.older.items) (sym layer_is) (omega (arith, count)) in
       record {

@@ -327,7 +327,9 @@ impl Distances {
     {
         let _limits = grid.cells();
         let span = span_at(grid, cell, place);
-        let level = self.layers.level_at(span.number as usize, place.column - span.column);
+        let level = self
+            .layers
+            .level_at(span.number as usize, place.column - span.column);
         level.saturating_sub(moves_between(place, self.toward))
     }
 
