@@ -8,7 +8,7 @@ ghost use Rattle.safe_intervals.specs.Safe.{IsIn, AnswersAt};
 ghost use Rattle.static_distance.specs.Distance.{IsDistance};
 ghost use Rattle.sipp_search.specs.declared.states.Spot.{Spot as ASpot};
 ghost use Rattle.sipp_search.specs.declared.states.State.{State as AState};
-ghost use Rattle.sipp_search.specs.declared.states.Mark.TheVariants.{Queued};
+ghost use Rattle.sipp_search.specs.declared.states.Mark.TheVariants.{Queued, Final};
 ghost use Rattle.sipp_search.specs.Marks.{spots_of, keys_of, offered, offered_mark};
 ghost use Rattle.sipp_search.specs.Entry.{CanEnter};
 ghost use Rattle.sipp_search.specs.Gaps.{BeginsAfter};
@@ -59,6 +59,14 @@ fn is_barred(here: &Calendar, there: &Calendar, from: Spot, to: Spot, entry: u32
         return false;
     }
     crossing_at(here, from.place, there, to.place, entry - 1)
+}
+
+// Whether the mark is that of a final state.
+fn is_final(mark: Mark) -> bool
+    ensures yes { OnTrue result ((f : ℕ) × (mark ≡ Final f)) }
+    ensures no { OnFalse result ((f : ℕ) → mark ≢ Final f) }
+{
+    matches!(mark, Mark::Final(_))
 }
 
 // Whether an offered arrival is earlier than the one that the mark has.
@@ -423,6 +431,41 @@ pub fn enter_first<V: CalendarView>(
     Ok(())
 }
 
+// Makes the earliest move out of the spot, where the agent is since `arrival`, into the one of that state.
+#[inline(always)]
+fn enter_known<V: CalendarView>(
+    task: &Task,
+    view: &V,
+    arena: &mut Arena,
+    from: Spot,
+    arrival: u32,
+    id: usize,
+    state: State,
+) -> Result<(), Memory>
+    requires ready { IsReady task.now.grid.now task.now.request task.now.horizon (V.size view.now) }
+    requires sound { IsSound task.now.grid.now task.now.request task.now.horizon (V.known view.now) (V.size view.now) arena.old }
+    requires placed { (i : ℕ) × (slice_get (spots_of arena.old.states.items) i ≡ Some from) }
+    requires arrived { IsIn arrival from.interval }
+    requires known { slice_get arena.old.states.items id ≡ Some state }
+    requires low { arena.old.queue.floor ≤ arrival + 1 + state.spot.left }
+    ensures serves { Serves task.now.horizon (length task.now.grid.now.cells) arena.new }
+    ensures sound { OnOk result (IsSound task.now.grid.now task.now.request task.now.horizon (V.known view.now) (V.size view.now) arena.new) }
+    ensures floor { OnOk result (arena.new.queue.floor ≡ arena.old.queue.floor) }
+    ensures spots { OnOk result (KeepsSpots arena.old.states.items arena.new.states.items) }
+    ensures improves { OnOk result (Improves arena.old.states.items arena.new.states.items) }
+    ensures led { OnOk result ((a : Assignment) (x : ℕ) → Agrees a (V.known view.now)
+        → IsSource task.now.grid.now task.now.request task.now.horizon a from arrival state.spot.cell
+        → IsUnderWay task.now.grid.now task.now.request task.now.horizon a arena.old.states.items arena.old.queue.floor x
+        → IsUnderWay task.now.grid.now task.now.request task.now.horizon a arena.new.states.items arena.old.queue.floor x
+        × HasLedInto task.now.grid.now task.now.request task.now.horizon a arena.new.states.items from arrival state.spot.cell state.spot.interval) }
+{
+    // A final state has the least arrival, so none is news there.
+    if is_final(state.mark) {
+        return Ok(());
+    }
+    enter(task, view, arena, from, arrival, state.spot, Some(id))
+}
+
 // Makes the moves out of the spot, where the agent is since `arrival`, into the safe intervals of a known cell beside it.
 #[inline(always)]
 fn enter_each<V: CalendarView>(
@@ -491,8 +534,9 @@ pub fn move_into<V: CalendarView>(
     };
     let there = view.calendar(to);
     let _in_order = there.records();
-    let spot = arena.states[id].spot;
-    enter(task, view, arena, from, arrival, spot, Some(id))?;
+    let state = arena.states[id];
+    let spot = state.spot;
+    enter_known(task, view, arena, from, arrival, id, state)?;
     if from.interval.to <= spot.interval.to {
         return Ok(());
     }
