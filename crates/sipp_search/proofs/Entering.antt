@@ -1,7 +1,7 @@
 -- The moves out of a spot into a cell beside it: into one interval, into all that come after so many records, and into all.
 use Rattle.std.proofs.Common.{arith, subst, sym, ap, ◌∙◌, refl, inl, inr, set}
 use Rattle.std.proofs.lemmas.Bool.{cases_lt, false≢true}
-use Rattle.std.specs.Prelude.{◌≡◌, ◌≢◌, ℕ, ◌+◌, ◌-◌, ◌<◌, ◌≤◌, false, List, Option, Some, None, IfSome, length, slice_get, max}
+use Rattle.std.specs.Prelude.{◌≡◌, ◌≢◌, ℕ, ◌+◌, ◌-◌, ◌<◌, ◌≤◌, false, List, Option, Some, None, IfSome, length, slice_get, min, max}
 use Rattle.fleet_base.specs.declared.grid.Cell.{Cell}
 use Rattle.fleet_base.specs.declared.request.Record.{Record}
 use Rattle.fleet_base.specs.declared.request.Request.{Request}
@@ -100,6 +100,20 @@ abbrev pub HasLedBetween : Terrain → Request → ℕ → Assignment → List S
 HasLedBetween g q horizon a states from r c first last = (t k : ℕ) → r ≤ t → t ≤ from.interval.to → first ≤ place_in (t + 1) (a c.0) → place_in (t + 1) (a c.0) < last
     → MayMove g a from.cell c t → IsWithin g q.goal c k → t + 1 + k ≤ horizon → HasSeen states c (t + 1)
 
+-- no move out of the spot that is of use arrives later
+abbrev pub IsLastArrival : Terrain → Request → ℕ → Spot → Cell → ℕ → Type 0
+IsLastArrival g q horizon from c last = (t k : ℕ) → t ≤ from.interval.to → IsWithin g q.goal c k → t + 1 + k ≤ horizon → t + 1 ≤ last
+
+-- who leaves has left by then, and the way that is left ends by the horizon
+pub last_arrival : (g : Terrain) (q : Request) (horizon : ℕ) (from : Spot) (c : Cell) (left room last : ℕ) → IsDistance g q.goal c left → horizon ≤ room + left
+    → last ≡ min room (from.interval.to + 1) → IsLastArrival g q horizon from c last
+last_arrival g q horizon from c left room last distance rest is t k until near in_time = omega (arith, distance.least near.left near.way, near.below)
+
+-- no move is of use where the last arrival would be before the first
+pub past_none : (g : Terrain) (q : Request) (horizon : ℕ) (a : Assignment) (states : List State) (from : Spot) (r : ℕ) (c : Cell) (first last : ℕ)
+    → IsLastArrival g q horizon from c last → last ≤ r → HasLedPast g q horizon a states from r c first
+past_none g q horizon a states from r c first last latest over t k since until low move near in_time = absurd (omega (arith, latest t k until near in_time))
+
 module _ (g : Terrain) (q : Request) (horizon : ℕ) (a : Assignment) (from : Spot) (r : ℕ) (c : Cell) where
   pub none_between : (states : List State) (first : ℕ) → HasLedBetween g q horizon a states from r c first first
   none_between states first t k since until low high move near in_time = absurd (omega arith)
@@ -128,6 +142,18 @@ module _ (g : Terrain) (q : Request) (horizon : ℕ) (a : Assignment) (from : Sp
           absurd (none (t + 1) (omega arith) free (omega arith))
     ]
 
+    -- the interval that comes next is over before a move could end in it
+    pub between_over : (states : List State) (first place : ℕ) (i : Interval) → HasLedBetween g q horizon a states from r c first place → i.to < max i.from (r + 1)
+        → ((t : ℕ) → t ≤ horizon → covers records t ≡ false → place_in t records ≡ place → IsIn t i) → HasLedBetween g q horizon a states from r c first (place + 1)
+    between_over states first place i before over lands t k since until low high move near in_time = elim (cases_lt (place_in (t + 1) (a c.0)) place) [
+      | inl less ↦ before t k since until low less move near in_time
+      | inr next ↦
+          let free : covers records (t + 1) ≡ false = rw is at move.untaken in
+          let at : place_in (t + 1) records ≡ place_in (t + 1) (a c.0) = ap (λ (rs : List Record). place_in (t + 1) rs) (sym is) in
+          let inside = lands (t + 1) (omega arith) free (omega arith) in
+          absurd (omega (arith, inside.0, inside.1))
+    ]
+
     -- all were seen that arrive at any time
     pub past_all : (states : List State) (first last : ℕ) → HasLedBetween g q horizon a states from r c first last → length records < last
         → HasLedPast g q horizon a states from r c first
@@ -144,6 +170,17 @@ module _ (g : Terrain) (q : Request) (horizon : ℕ) (a : Assignment) (from : Sp
           let free : covers records (t + 1) ≡ false = rw is at move.untaken in
           let at : place_in (t + 1) records ≡ place_in (t + 1) (a c.0) = ap (λ (rs : List Record). place_in (t + 1) rs) (sym is) in
           absurd (false≢true (sym free ∙ begun_covers records (place - 1) (t + 1) b (omega arith) stands (omega arith)))
+    ]
+
+    -- a record is there until the last arrival that is of use
+    pub past_last : (states : List State) (first place last : ℕ) (b : Record) → HasLedBetween g q horizon a states from r c first place → 0 < place
+        → slice_get records (place - 1) ≡ Some b → last ≤ b.to → IsLastArrival g q horizon from c last → HasLedPast g q horizon a states from r c first
+    past_last states first place last b led some stands stays latest t k since until low move near in_time = elim (cases_lt (place_in (t + 1) (a c.0)) place) [
+      | inl less ↦ led t k since until low less move near in_time
+      | inr next ↦
+          let free : covers records (t + 1) ≡ false = rw is at move.untaken in
+          let at : place_in (t + 1) records ≡ place_in (t + 1) (a c.0) = ap (λ (rs : List Record). place_in (t + 1) rs) (sym is) in
+          absurd (false≢true (sym free ∙ begun_covers records (place - 1) (t + 1) b (omega arith) stands (omega (arith, latest t k until near in_time))))
     ]
 
     -- no move arrives before those that were seen

@@ -1,14 +1,17 @@
 -- The safe interval that comes after so many records: each free time that does is in it, and none other.
-use Rattle.std.proofs.Common.{arith, inl, inr}
+use Rattle.std.proofs.Common.{arith, refl, inl, inr, get_or}
 use Rattle.std.proofs.lemmas.Bool.{cases_lt}
-use Rattle.std.specs.Prelude.{◌≡◌, ℕ, ◌+◌, ◌-◌, ◌<◌, ◌≤◌, false, List}
+use Rattle.std.proofs.lemmas.Option.{slice_get-get_or}
+use Rattle.std.specs.Prelude.{◌≡◌, ℕ, ◌+◌, ◌-◌, ◌<◌, ◌≤◌, false, List, [], ◌∷◌, length}
 use Rattle.fleet_base.specs.declared.request.Record.{Record}
 use Rattle.calendars.specs.Places.{place_in}
 use Rattle.calendars.specs.Records.{covers, InOrder}
 use Rattle.safe_intervals.specs.declared.interval.Interval.{Interval}
 use Rattle.safe_intervals.specs.Safe.{IsIn, IsGapAt}
 use Rattle.safe_intervals.proofs.Counting.{more_begun}
+use Rattle.safe_intervals.proofs.PlaceGaps.{IsBehind, found_none, found_last}
 use Rattle.safe_intervals.proofs.SafeLemmas.{safe_once}
+use Rattle.sipp_search.specs.Gaps.{BeginsAfter}
 use Rattle.sipp_search.proofs.Counted.{covered_later}
 
 module _ (records : List Record) (horizon place : ℕ) (i : Interval) (order : InOrder records) (gap : IsGapAt records horizon place i) where
@@ -47,3 +50,18 @@ same_gap records horizon place i j order one two =
     let begin : IsIn i.from i = (omega arith, one.safe.some) in
     safe_once records horizon i j i.from one.safe two.safe begin
     (in_gap records horizon place j order two i.from (omega (arith, one.safe.some, one.safe.within)) (one.safe.free i.from begin) (one.place_is i.from begin))
+
+behind_some : (records : List Record) (horizon place begin : ℕ) → InOrder records → horizon ≤ 8000 → 0 < place → place ≤ length records → BeginsAfter records place begin → begin ≤ horizon
+    → IsBehind records place begin
+behind_some [] horizon place begin order range some within after in_time = absurd (omega arith)
+behind_some (r ∷ rs) horizon place begin order range some within after in_time =
+    let last : begin ≡ (get_or (r ∷ rs) (place - 1) r).to + 1 = after.last (get_or (r ∷ rs) (place - 1) r) some (slice_get-get_or (r ∷ rs) (place - 1) r (omega arith)) in
+    (found_last (r ∷ rs) (r ∷ rs) horizon place begin r refl order some within range (omega arith) last).0
+
+-- where the gap after so many records begins, those are over
+pub behind_begin : (records : List Record) (horizon place begin : ℕ) → InOrder records → horizon ≤ 8000 → place ≤ length records → BeginsAfter records place begin → begin ≤ horizon
+    → IsBehind records place begin
+behind_begin records horizon place begin order range within after in_time = elim (cases_lt 0 place) [
+  | inl some ↦ behind_some records horizon place begin order range some within after in_time
+  | inr none ↦ (found_none records horizon place begin order (omega arith) (after.none (omega arith))).0
+]

@@ -3,6 +3,7 @@ pub mod Answer
 pub mod Marks
 pub mod Progress
 pub mod Entry
+pub mod Gaps
 pub mod Visiting
 pub mod Arena
 pub mod Running

@@ -4,41 +4,21 @@ use Rattle.sipp_search.specs.declared.states.Spot.{Spot}
 use Rattle.sipp_search.specs.Marks.{spots_of}
 use Rattle.sipp_search.proofs.Exchanges.{earliest_bars, earliest_enters}
 use Rattle.sipp_search.proofs.Blocks.{spots_right}
-use Rattle.sipp_search.proofs.Entering.{entered_never, entered_late}
+use Rattle.sipp_search.proofs.Entering.{entered_never}
 use Rattle.sipp_search.proofs.Serving.{sound_marked}
 use Rattle.sipp_search.specs.declared.states.Mark.TheVariants.{Queued}
 use Rattle.sipp_search.proofs.Growing.{free_by}
 use Rattle.sipp_search.proofs.Fresh.{queued_spots, queued_improves, queued_before, queued_led}
 use Rattle.sipp_search.proofs.enter.enter_new.Goals as goal
 
-pub returns-in_default-clause-led : goal.returns-in_default-clause-led
-returns-in_default-clause-led g c = λ a x agrees source way.
-    entered_never c.args.task.now.grid.now c.args.task.now.request c.args.task.now.horizon a c.args.arena.now.queue.floor x c.args.arena.now.states.items c.args.from c.args.arrival c.args.to
-    c.requires.to.distance way (c.in_default.ensures.none (a c.args.from.cell.0) (a c.args.to.cell.0))
-
-pub returns-in_default-checked_sub-clause-led : goal.returns-in_default-checked_sub-clause-led
-returns-in_default-checked_sub-clause-led g c = λ a x agrees source way.
-    entered_late c.args.task.now.grid.now c.args.task.now.request c.args.task.now.horizon a c.args.arena.now.queue.floor x c.args.arena.now.states.items c.args.from c.args.arrival c.args.to
-    c.requires.to.distance way c.in-Some.entry c.in-Some.ensures.some.0 (omega (arith, c.in_default-checked_sub.ensures))
-
-pub returns-then-to-room-clause-led : goal.returns-then-to-room-clause-led
-returns-then-to-room-clause-led g c = λ a x agrees source way.
-    entered_late c.args.task.now.grid.now c.args.task.now.request c.args.task.now.horizon a c.args.arena.now.queue.floor x c.args.arena.now.states.items c.args.from c.args.arrival c.args.to
-    c.requires.to.distance way c.in-Some.entry c.in-Some.ensures.some.0 (omega (arith, c.in-Some-checked_sub.ensures, c.if-to-room.true))
-
 pub returns-then-is_barred-clause-led : goal.returns-then-is_barred-clause-led
-returns-then-is_barred-clause-led g c = λ a x agrees source way.
+returns-then-is_barred-clause-led g c = λ a x r agrees source is way.
     (let here : a c.args.from.cell.0 ≡ c.calendar-here.result.now = agrees c.args.from.cell.0 _ c.calendar-here.ensures in
     let there : a c.args.to.cell.0 ≡ c.calendar.result.now = agrees c.args.to.cell.0 _ c.calendar.ensures in
-    entered_never c.args.task.now.grid.now c.args.task.now.request c.args.task.now.horizon a c.args.arena.now.queue.floor x c.args.arena.now.states.items c.args.from c.args.arrival c.args.to
+    entered_never c.args.task.now.grid.now c.args.task.now.request c.args.task.now.horizon a c.args.arena.now.queue.floor x c.args.arena.now.states.items c.args.from r c.args.to
     c.requires.to.distance way
-    (rw (here, there) (earliest_bars c.calendar-here.result.now c.calendar.result.now c.args.from.interval c.args.to.interval c.args.arrival c.in-Some.entry c.if-is_barred.ensures.ordered
-    (λ t at. rw here at (source.safe.free t at)) c.requires.arrived.0 c.in-Some.ensures.some.0 (sym c.if-is_barred.ensures.barred))))
-
-pub first_entry-requires-clause-times : goal.first_entry-requires-clause-times
-first_entry-requires-clause-times g c =
-    let of = c.requires.sound.arranged.each c.requires.placed.0 c.args.from c.requires.placed.1 in
-    omega (arith, of.safe.within, c.requires.ready.in_range)
+    (rw (here, there) (earliest_bars c.calendar-here.result.now c.calendar.result.now c.args.from.interval c.args.to.interval r c.args.entry c.if-is_barred.ensures.ordered
+    (λ t at. rw here at (source.safe.free t at)) source.arrived.inside.0 is (sym c.if-is_barred.ensures.barred))))
 
 pub calendar-here-requires : goal.calendar-here-requires
 calendar-here-requires g c =
@@ -63,50 +43,46 @@ is_barred-requires-clause-there g c =
     free_by c.args.task.now.grid.now c.args.task.now.request.goal c.args.task.now.horizon (g.V.CalendarView.known c.args.view.now) c.args.to
     c.requires.to c.calendar.result.now c.calendar.ensures
 
-pub add_queued-requires-clause-low : goal.add_queued-requires-clause-low
-add_queued-requires-clause-low g c = omega (arith, c.requires.low, c.in-Some.ensures.some.0)
-
 pub add_queued-requires-clause-high : goal.add_queued-requires-clause-high
-add_queued-requires-clause-high g c = omega (arith, c.requires.sound.bound, c.in-Some-checked_sub.ensures, c.if-to-room.false)
+add_queued-requires-clause-high g c = omega (arith, c.requires.sound.bound, c.requires.in_time)
 
 pub returns-clause-sound : goal.returns-clause-sound
 returns-clause-sound g c =
     let states = c.in_ok-add_queued.ensures.states in
     sound_marked c.args.task.now.grid.now c.args.task.now.request c.args.task.now.horizon (g.V.CalendarView.known c.args.view.now) (g.V.CalendarView.size c.args.view.now)
-    c.args.arena.now c.add_queued.new.arena c.args.to states.0 (Queued c.in-Some.entry) c.requires.sound c.requires.to c.requires.new states.1 states.2
+    c.args.arena.now c.add_queued.new.arena c.args.to states.0 (Queued c.args.entry) c.requires.sound c.requires.to c.requires.new states.1 states.2
     c.in_ok-add_queued.ensures.newest c.in_ok-add_queued.ensures.queue c.in_ok-add_queued.ensures.distances
 
 pub returns-clause-spots : goal.returns-clause-spots
 returns-clause-spots g c =
     let states = c.in_ok-add_queued.ensures.states in
-    queued_spots c.args.arena.now.states.items c.add_queued.new.arena.states.items (record c.args.to { older = states.0 }) c.in-Some.entry states.2
+    queued_spots c.args.arena.now.states.items c.add_queued.new.arena.states.items (record c.args.to { older = states.0 }) c.args.entry states.2
 
 pub returns-clause-improves : goal.returns-clause-improves
 returns-clause-improves g c =
     let states = c.in_ok-add_queued.ensures.states in
-    queued_improves c.args.arena.now.states.items c.add_queued.new.arena.states.items (record c.args.to { older = states.0 }) c.in-Some.entry states.2
+    queued_improves c.args.arena.now.states.items c.add_queued.new.arena.states.items (record c.args.to { older = states.0 }) c.args.entry states.2
 
 pub returns-clause-before : goal.returns-clause-before
 returns-clause-before g c =
     let states = c.in_ok-add_queued.ensures.states in
-    queued_before c.args.arena.now.states.items c.add_queued.new.arena.states.items (record c.args.to { older = states.0 }) c.in-Some.entry states.2 c.args.to.cell
+    queued_before c.args.arena.now.states.items c.add_queued.new.arena.states.items (record c.args.to { older = states.0 }) c.args.entry states.2 c.args.to.cell
 
 pub returns-clause-led : goal.returns-clause-led
-returns-clause-led g c = λ a x agrees source way.
+returns-clause-led g c = λ a x r agrees source is way.
     (let terrain = c.args.task.now.grid.now in
     let q = c.args.task.now.request in
     let horizon = c.args.task.now.horizon in
     let known = g.V.CalendarView.known c.args.view.now in
     let here : a c.args.from.cell.0 ≡ c.calendar-here.result.now = agrees c.args.from.cell.0 _ c.calendar-here.ensures in
     let there : a c.args.to.cell.0 ≡ c.calendar.result.now = agrees c.args.to.cell.0 _ c.calendar.ensures in
-    let first = c.in-Some.ensures.some in
-    let unbarred : is_exchange (a c.args.from.cell.0) (a c.args.to.cell.0) (c.in-Some.entry - 1) ≡ false = rw (here, there) (sym {b = is_exchange c.calendar-here.result.now c.calendar.result.now (c.in-Some.entry - 1)} c.if-is_barred.ensures.barred) in
-    let entry = earliest_enters (a c.args.from.cell.0) (a c.args.to.cell.0) c.args.from.interval c.args.to.interval c.args.arrival c.in-Some.entry first.0 unbarred first.1 first.2 in
+    let unbarred : is_exchange (a c.args.from.cell.0) (a c.args.to.cell.0) (c.args.entry - 1) ≡ false = rw (here, there) (sym {b = is_exchange c.calendar-here.result.now c.calendar.result.now (c.args.entry - 1)} c.if-is_barred.ensures.barred) in
+    let entry = earliest_enters (a c.args.from.cell.0) (a c.args.to.cell.0) c.args.from.interval c.args.to.interval r c.args.entry is unbarred c.requires.until c.requires.lands.1 in
     let states = c.in_ok-add_queued.ensures.states in
     let spot : Spot = record c.args.to { older = states.0 } in
     let sound = sound_marked terrain q horizon known (g.V.CalendarView.size c.args.view.now)
-    c.args.arena.now c.add_queued.new.arena c.args.to states.0 (Queued c.in-Some.entry) c.requires.sound c.requires.to c.requires.new states.1 states.2
+    c.args.arena.now c.add_queued.new.arena c.args.to states.0 (Queued c.args.entry) c.requires.sound c.requires.to c.requires.new states.1 states.2
     c.in_ok-add_queued.ensures.newest c.in_ok-add_queued.ensures.queue c.in_ok-add_queued.ensures.distances in
     let right = spots_right terrain q.goal horizon known (spots_of c.add_queued.new.arena.states.items) c.add_queued.new.arena.newest q a refl sound.arranged agrees in
-    queued_led c.args.arena.now.states.items c.add_queued.new.arena.states.items spot c.in-Some.entry states.2 terrain q horizon a c.args.arena.now.queue.floor x c.args.from c.args.arrival
-    c.requires.to.distance way first.0 source right entry c.requires.ready.bound (omega (arith, c.requires.low, first.0)) (omega (arith, c.in-Some-checked_sub.ensures, c.if-to-room.false)))
+    queued_led c.args.arena.now.states.items c.add_queued.new.arena.states.items spot c.args.entry states.2 terrain q horizon a c.args.arena.now.queue.floor x c.args.from r
+    c.requires.to.distance way is source right entry c.requires.ready.bound c.requires.low c.requires.in_time)
