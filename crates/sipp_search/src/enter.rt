@@ -243,54 +243,49 @@ fn enter_new<V: CalendarView>(
     Ok(())
 }
 
-// Makes the moves out of the spot, where the agent is since `arrival`, into the safe intervals of the cell that come after
-// so many of its records or more.
-fn enter_later<V: CalendarView>(
+// Makes the move out of the spot into another one that arrives at `entry`, the earliest time that there could be.
+#[inline(always)]
+fn enter_at<V: CalendarView>(
     task: &Task,
     view: &V,
     arena: &mut Arena,
     from: Spot,
-    arrival: u32,
-    to: Cell,
-    left: u32,
-    first: usize,
+    to: Spot,
+    entry: u32,
 ) -> Result<(), Memory>
     requires ready { IsReady task.now.grid.now task.now.request task.now.horizon (V.size view.now) }
     requires sound { IsSound task.now.grid.now task.now.request task.now.horizon (V.known view.now) (V.size view.now) arena.old }
     requires placed { (i : ℕ) × (slice_get (spots_of arena.old.states.items) i ≡ Some from) }
-    requires arrived { IsIn arrival from.interval }
-    requires cell { to.0 < V.size view.now }
-    requires there { IsSome (V.known view.now to.0) }
-    requires distance { IsDistance task.now.grid.now task.now.request.goal to left }
-    requires low { arena.old.queue.floor ≤ arrival + 1 + left }
+    requires to { IsOfArena task.now.grid.now task.now.request.goal task.now.horizon (V.known view.now) to }
+    requires begun { from.interval.from < entry }
+    requires until { entry ≤ from.interval.to + 1 }
+    requires lands { IsIn entry to.interval }
+    requires low { arena.old.queue.floor ≤ entry + to.left }
+    requires in_time { entry + to.left ≤ task.now.horizon }
     ensures serves { Serves task.now.horizon (length task.now.grid.now.cells) arena.new }
     ensures sound { OnOk result (IsSound task.now.grid.now task.now.request task.now.horizon (V.known view.now) (V.size view.now) arena.new) }
     ensures floor { OnOk result (arena.new.queue.floor ≡ arena.old.queue.floor) }
     ensures spots { OnOk result (KeepsSpots arena.old.states.items arena.new.states.items) }
     ensures improves { OnOk result (Improves arena.old.states.items arena.new.states.items) }
-    ensures led { OnOk result ((a : Assignment) (x : ℕ) → Agrees a (V.known view.now) → IsSource task.now.grid.now task.now.request task.now.horizon a from arrival to
+    ensures led { OnOk result ((a : Assignment) (x r : ℕ) → Agrees a (V.known view.now) → IsSource task.now.grid.now task.now.request task.now.horizon a from r to.cell
+        → entry ≡ max to.interval.from (r + 1)
         → IsUnderWay task.now.grid.now task.now.request task.now.horizon a arena.old.states.items arena.old.queue.floor x
         → IsUnderWay task.now.grid.now task.now.request task.now.horizon a arena.new.states.items arena.old.queue.floor x
-        × HasLedPast task.now.grid.now task.now.request task.now.horizon a arena.new.states.items from arrival to first) }
+        × HasLedInto task.now.grid.now task.now.request task.now.horizon a arena.new.states.items from r to.cell to.interval) }
 {
-    let there = view.calendar(to);
-    for place in first..there.records().len() + 1 {
-        // No move leads behind a record that is there after the interval.
-        if place > 0 && there.records()[place - 1].to > from.interval.to {
-            return Ok(());
-        }
-        if let Some(interval) = gap_at(there, place, task.horizon) {
-            let spot = Spot {
-                cell: to,
-                interval,
-                left,
-                place,
-                older: 0,
-            };
-            let known = known_at(&*arena, to, place);
-            enter(task, view, arena, from, arrival, spot, known)?;
-        }
+    let here = view.calendar(from.cell);
+    let there = view.calendar(to.cell);
+    // Where the earliest move is an exchange, no later one is free. That is asked first, since most such moves in a warehouse are.
+    if is_barred(here, there, from, to, entry) {
+        return Ok(());
     }
+    let _in_order = there.records();
+    let key = entry + to.left;
+    let Some(id) = known_at(&*arena, to.cell, to.place) else {
+        add_queued(arena, to, entry, key)?;
+        return Ok(());
+    };
+    offer(&mut arena.states, &mut arena.queue, id, entry, key)?;
     Ok(())
 }
 
@@ -331,6 +326,67 @@ fn gap_since(records: &[Record], place: usize, begin: u32, horizon: u32) -> Opti
         to = to.min(next - 1);
     }
     Some(Interval { from: begin, to })
+}
+
+// Makes the moves out of the spot, where the agent is since `arrival`, into the safe intervals of the cell that come after
+// so many of its records or more.
+fn enter_later<V: CalendarView>(
+    task: &Task,
+    view: &V,
+    arena: &mut Arena,
+    from: Spot,
+    arrival: u32,
+    to: Cell,
+    left: u32,
+    first: usize,
+) -> Result<(), Memory>
+    requires ready { IsReady task.now.grid.now task.now.request task.now.horizon (V.size view.now) }
+    requires sound { IsSound task.now.grid.now task.now.request task.now.horizon (V.known view.now) (V.size view.now) arena.old }
+    requires placed { (i : ℕ) × (slice_get (spots_of arena.old.states.items) i ≡ Some from) }
+    requires arrived { IsIn arrival from.interval }
+    requires cell { to.0 < V.size view.now }
+    requires there { IsSome (V.known view.now to.0) }
+    requires distance { IsDistance task.now.grid.now task.now.request.goal to left }
+    requires low { arena.old.queue.floor ≤ arrival + 1 + left }
+    ensures serves { Serves task.now.horizon (length task.now.grid.now.cells) arena.new }
+    ensures sound { OnOk result (IsSound task.now.grid.now task.now.request task.now.horizon (V.known view.now) (V.size view.now) arena.new) }
+    ensures floor { OnOk result (arena.new.queue.floor ≡ arena.old.queue.floor) }
+    ensures spots { OnOk result (KeepsSpots arena.old.states.items arena.new.states.items) }
+    ensures improves { OnOk result (Improves arena.old.states.items arena.new.states.items) }
+    ensures led { OnOk result ((a : Assignment) (x : ℕ) → Agrees a (V.known view.now) → IsSource task.now.grid.now task.now.request task.now.horizon a from arrival to
+        → IsUnderWay task.now.grid.now task.now.request task.now.horizon a arena.old.states.items arena.old.queue.floor x
+        → IsUnderWay task.now.grid.now task.now.request task.now.horizon a arena.new.states.items arena.old.queue.floor x
+        × HasLedPast task.now.grid.now task.now.request task.now.horizon a arena.new.states.items from arrival to first) }
+{
+    let Some(room) = task.horizon.checked_sub(left) else {
+        return Ok(());
+    };
+    // No later arrival is of use: who leaves has left by then, and the way that is left ends by the horizon.
+    let last = room.min(from.interval.to + 1);
+    if arrival >= last {
+        return Ok(());
+    }
+    let there = view.calendar(to);
+    let records = there.records();
+    for place in first..records.len() + 1 {
+        let Some(begin) = begin_by(records, place, last) else {
+            return Ok(());
+        };
+        if let Some(interval) = gap_since(records, place, begin, task.horizon) {
+            let entry = begin.max(arrival + 1);
+            if entry <= interval.to {
+                let spot = Spot {
+                    cell: to,
+                    interval,
+                    left,
+                    place,
+                    older: 0,
+                };
+                enter_at(task, view, arena, from, spot, entry)?;
+            }
+        }
+    }
+    Ok(())
 }
 
 // Makes the moves out of the spot, where the agent is since `arrival`, into the safe intervals of the cell that come after

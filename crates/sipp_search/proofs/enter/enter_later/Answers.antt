@@ -1,31 +1,21 @@
-use Rattle.std.proofs.Common.{arith, subst, sym, ap, ◌∙◌, ◌≡◌, ◌-◌, ◌<◌, ℕ, length}
-use Rattle.std.proofs.lemmas.Option.{slice_get-get_or}
-use Rattle.safe_intervals.specs.Safe.{NoneSafeAt}
-use Rattle.sipp_search.specs.declared.states.Spot.{Spot}
-use Rattle.sipp_search.specs.Arena.{IsOfArena}
+use Rattle.std.proofs.Common.{arith, subst, sym, ap, ◌∙◌, ◌≡◌, ℕ, length}
+use Rattle.safe_intervals.specs.Safe.{IsGapAt, NoneSafeAt}
 use Rattle.sipp_search.specs.Progress.{IsUnderWay}
 use Rattle.sipp_search.proofs.Marking.{improves-trans}
 use Rattle.sipp_search.proofs.Places.{in_gap}
-use Rattle.sipp_search.proofs.Entering.{between_more, between_none, past_all, past_barred}
-use Rattle.sipp_search.proofs.Growing.{known_there, new_there}
-use Rattle.sipp_search.proofs.enter.enter_later.Goals.{in-Some+in_ok-enter, in_default}
+use Rattle.sipp_search.proofs.Entering.{between_more, between_none, between_over, past_all, past_none, past_last, last_arrival}
+use Rattle.sipp_search.proofs.enter.enter_later.Goals.{in-Some-gap_since+then-entry-interval+in_ok-enter_at, in-Some-gap_since+else-entry-interval, in_default-gap_since}
 use Rattle.sipp_search.proofs.enter.enter_later.Goals as goal
 
-pub enter-requires-clause-known : goal.enter-requires-clause-known
-enter-requires-clause-known g c =
-    let spot : Spot = record { cell = c.args.to; interval = c.in-Some.interval; left = c.args.left; place = c.loop-place.place; older = 0 } in
-    let of : IsOfArena c.args.task.now.grid.now c.args.task.now.request.goal c.args.task.now.horizon (g.V.CalendarView.known c.args.view.now) spot =
-    record { records = c.calendar-there.result.now; known_is = c.calendar-there.ensures; safe = c.in-Some.ensures.safe; distance = c.requires.distance; place_is = c.in-Some.ensures.place_is } in
-    known_there c.args.task.now.grid.now c.args.task.now.request.goal c.args.task.now.horizon (g.V.CalendarView.known c.args.view.now) c.loop-place.arena.states.items c.loop-place.arena.newest
-    c.loop-place.invariant.sound.arranged spot of c.records.ensures.ordered c.known_at-known.result c.known_at-known.ensures.some
+pub overflow_add-from : goal.overflow_add-from
+overflow_add-from g c =
+    let of = c.requires.sound.arranged.each c.requires.placed.0 c.args.from c.requires.placed.1 in
+    omega (arith, of.safe.within, c.requires.ready.in_range)
 
-pub enter-requires-clause-new : goal.enter-requires-clause-new
-enter-requires-clause-new g c =
-    let spot : Spot = record { cell = c.args.to; interval = c.in-Some.interval; left = c.args.left; place = c.loop-place.place; older = 0 } in
-    let of : IsOfArena c.args.task.now.grid.now c.args.task.now.request.goal c.args.task.now.horizon (g.V.CalendarView.known c.args.view.now) spot =
-    record { records = c.calendar-there.result.now; known_is = c.calendar-there.ensures; safe = c.in-Some.ensures.safe; distance = c.requires.distance; place_is = c.in-Some.ensures.place_is } in
-    new_there c.args.task.now.grid.now c.args.task.now.request.goal c.args.task.now.horizon (g.V.CalendarView.known c.args.view.now) c.loop-place.arena.states.items c.loop-place.arena.newest
-    c.loop-place.invariant.sound.arranged spot of c.records.ensures.ordered c.known_at-known.result c.known_at-known.ensures.none
+pub enter_at-requires-clause-to : goal.enter_at-requires-clause-to
+enter_at-requires-clause-to g c =
+    let gap : IsGapAt c.calendar-there.result.now c.args.task.now.horizon c.loop-place.place c.in-Some-gap_since.interval = rw c.records-records.ensures.value at c.in-Some-gap_since.ensures.gap in
+    record { records = c.calendar-there.result.now; known_is = c.calendar-there.ensures; safe = gap.safe; distance = c.requires.distance; place_is = gap.place_is }
 
 pub returns-clause-led : goal.returns-clause-led
 returns-clause-led g c = λ a x agrees source way.
@@ -33,29 +23,44 @@ returns-clause-led g c = λ a x agrees source way.
     let there : a c.args.to.0 ≡ c.calendar-there.result.now = agrees c.args.to.0 _ c.calendar-there.ensures in (
       both.0,
       past_all c.args.task.now.grid.now c.args.task.now.request c.args.task.now.horizon a c.args.from c.args.arrival c.args.to c.calendar-there.result.now there
-          c.loop-place.arena.states.items c.args.first c.loop-place.place both.1 (omega (arith, c.loop-place-test.false, ap length c.records.ensures.value)),
+          c.loop-place.arena.states.items c.args.first c.loop-place.place both.1 (omega (arith, c.loop-place-test.false, ap length c.records-records.ensures.value)),
     ))
 
-pub returns-then-records-place-clause-led : goal.returns-then-records-place-clause-led
-returns-then-records-place-clause-led g c = λ a x agrees source way.
+pub returns-in_default-clause-led : goal.returns-in_default-clause-led
+returns-in_default-clause-led g c = λ a x agrees source way.
+    (way, (λ t k since until low move near in_time. absurd (omega (arith, c.in_default.ensures, c.requires.distance.least near.left near.way, near.below))))
+
+pub returns-then-arrival-last-clause-led : goal.returns-then-arrival-last-clause-led
+returns-then-arrival-last-clause-led g c = λ a x agrees source way.
+    (let latest = last_arrival c.args.task.now.grid.now c.args.task.now.request c.args.task.now.horizon c.args.from c.args.to c.args.left c.in-Some.room _ c.requires.distance
+    (omega (arith, c.in-Some.ensures)) c.min-last.ensures in (
+      way,
+      past_none c.args.task.now.grid.now c.args.task.now.request c.args.task.now.horizon a c.args.arena.now.states.items c.args.from c.args.arrival c.args.to c.args.first _ latest
+          c.if-arrival-last.true,
+    ))
+
+pub returns-in_default-begin_by-clause-led : goal.returns-in_default-begin_by-clause-led
+returns-in_default-begin_by-clause-led g c = λ a x agrees source way.
     (let both = c.loop-place.invariant.led a x agrees source way in
     let records = c.calendar-there.result.now in
     let there : a c.args.to.0 ≡ records = agrees c.args.to.0 _ c.calendar-there.ensures in
-    let inside : c.loop-place.place - 1 < length records = omega (arith, c.if-place-gt0.true, c.loop-place-test.true, ap length c.records.ensures.value) in (
+    let latest = last_arrival c.args.task.now.grid.now c.args.task.now.request c.args.task.now.horizon c.args.from c.args.to c.args.left c.in-Some.room _ c.requires.distance
+    (omega (arith, c.in-Some.ensures)) c.min-last.ensures in
+    let gone = rw c.records-records.ensures.value at c.in_default-begin_by.ensures.none in (
       both.0,
-      past_barred c.args.task.now.grid.now c.args.task.now.request c.args.task.now.horizon a c.args.from c.args.arrival c.args.to records there
-          c.loop-place.arena.states.items c.args.first c.loop-place.place _ both.1 c.if-place-gt0.true (slice_get-get_or records (c.loop-place.place - 1) _ inside)
-          (rw c.records-then-place-gt0.ensures.value at c.if-records-place.true),
+      past_last c.args.task.now.grid.now c.args.task.now.request c.args.task.now.horizon a c.args.from c.args.arrival c.args.to records there
+          c.loop-place.arena.states.items c.args.first c.loop-place.place _ gone.1.0 both.1 gone.0 gone.1.1 gone.1.2 latest,
     ))
 
 pub loop-place-preserved : goal.loop-place-preserved
-loop-place-preserved g c = elim c.match-gap_at.branch [
-  | in-Some+in_ok-enter w ↦
+loop-place-preserved g c = elim c.match-gap_since.branch [
+  | in-Some-gap_since+then-entry-interval+in_ok-enter_at w ↦
+      let gap : IsGapAt c.calendar-there.result.now c.args.task.now.horizon c.loop-place.place w.in-Some-gap_since.interval = rw c.records-records.ensures.value at w.in-Some-gap_since.ensures.gap in
       rw w.arena-is (record {
-        sound = w.in_ok-enter.ensures.sound;
-        floor = w.in_ok-enter.ensures.floor ∙ c.loop-place.invariant.floor;
-        spots = λ i p at. w.in_ok-enter.ensures.spots i p (c.loop-place.invariant.spots i p at);
-        improves = improves-trans _ _ _ c.loop-place.invariant.improves w.in_ok-enter.ensures.improves;
+        sound = w.in_ok-enter_at.ensures.sound;
+        floor = w.in_ok-enter_at.ensures.floor ∙ c.loop-place.invariant.floor;
+        spots = λ i p at. w.in_ok-enter_at.ensures.spots i p (c.loop-place.invariant.spots i p at);
+        improves = improves-trans _ _ _ c.loop-place.invariant.improves w.in_ok-enter_at.ensures.improves;
         led = λ a x agrees source way.
             (let terrain = c.args.task.now.grid.now in
             let q = c.args.task.now.request in
@@ -63,16 +68,34 @@ loop-place-preserved g c = elim c.match-gap_at.branch [
             let records = c.calendar-there.result.now in
             let there : a c.args.to.0 ≡ records = agrees c.args.to.0 _ c.calendar-there.ensures in
             let before = c.loop-place.invariant.led a x agrees source way in
-            let step = w.in_ok-enter.ensures.led a x agrees source
+            let step = w.in_ok-enter_at.ensures.led a x c.args.arrival agrees source (omega (arith, w.max-entry.ensures, w.in-Some-gap_since.ensures.from))
             (subst (λ (n : ℕ). IsUnderWay terrain q horizon a c.loop-place.arena.states.items n x) (sym c.loop-place.invariant.floor) before.0) in (
-              subst (λ (n : ℕ). IsUnderWay terrain q horizon a w.enter.new.arena.states.items n x) c.loop-place.invariant.floor step.0,
-              between_more terrain q horizon a c.args.from c.args.arrival c.args.to records there c.loop-place.arena.states.items w.enter.new.arena.states.items c.args.first c.loop-place.place
-                  w.in-Some.interval w.in_ok-enter.ensures.improves before.1 step.1
-                  (in_gap records horizon c.loop-place.place w.in-Some.interval c.records.ensures.ordered w.in-Some.ensures),
+              subst (λ (n : ℕ). IsUnderWay terrain q horizon a w.enter_at.new.arena.states.items n x) c.loop-place.invariant.floor step.0,
+              between_more terrain q horizon a c.args.from c.args.arrival c.args.to records there c.loop-place.arena.states.items w.enter_at.new.arena.states.items c.args.first c.loop-place.place
+                  w.in-Some-gap_since.interval w.in_ok-enter_at.ensures.improves before.1 step.1
+                  (in_gap records horizon c.loop-place.place w.in-Some-gap_since.interval c.records-records.ensures.ordered gap),
             ));
       })
-  | in_default w ↦
-      let none : NoneSafeAt c.calendar-there.result.now c.args.task.now.horizon c.loop-place.place = rw w.in_default.is at c.gap_at.ensures in
+  | in-Some-gap_since+else-entry-interval w ↦
+      let gap : IsGapAt c.calendar-there.result.now c.args.task.now.horizon c.loop-place.place w.in-Some-gap_since.interval = rw c.records-records.ensures.value at w.in-Some-gap_since.ensures.gap in
+      rw w.arena-is (record {
+        sound = c.loop-place.invariant.sound;
+        floor = c.loop-place.invariant.floor;
+        spots = c.loop-place.invariant.spots;
+        improves = c.loop-place.invariant.improves;
+        led = λ a x agrees source way.
+            (let horizon = c.args.task.now.horizon in
+            let records = c.calendar-there.result.now in
+            let there : a c.args.to.0 ≡ records = agrees c.args.to.0 _ c.calendar-there.ensures in
+            let before = c.loop-place.invariant.led a x agrees source way in (
+              before.0,
+              between_over c.args.task.now.grid.now c.args.task.now.request horizon a c.args.from c.args.arrival c.args.to records there
+                  c.loop-place.arena.states.items c.args.first c.loop-place.place w.in-Some-gap_since.interval before.1 (omega (arith, w.max-entry.ensures, w.in-Some-gap_since.ensures.from, w.if-entry-interval.false))
+                  (in_gap records horizon c.loop-place.place w.in-Some-gap_since.interval c.records-records.ensures.ordered gap),
+            ));
+      })
+  | in_default-gap_since w ↦
+      let none : NoneSafeAt c.calendar-there.result.now c.args.task.now.horizon c.loop-place.place = rw (w.in_default-gap_since.is, c.records-records.ensures.value) at c.gap_since.ensures.gap in
       rw w.arena-is (record {
         sound = c.loop-place.invariant.sound;
         floor = c.loop-place.invariant.floor;
