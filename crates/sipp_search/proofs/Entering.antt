@@ -30,10 +30,6 @@ use Rattle.sipp_search.proofs.Places.{more_later}
 abbrev pub IsStateOf : List State → Spot → ℕ → Type 0
 IsStateOf states to id = (s : State) × (slice_get states id ≡ Some s) × (s.spot.cell ≡ to.cell) × (s.spot.interval ≡ to.interval)
 
--- an arrival is known there that is as early as e
-abbrev pub IsNoNews : List State → ℕ → ℕ → Type 0
-IsNoNews states e id = (s : State) → slice_get states id ≡ Some s → offered_mark s.mark e ≡ s.mark
-
 -- One move: the search goes on, and each move into the interval was seen.
 module _ (g : Terrain) (q : Request) (horizon : ℕ) (a : Assignment) (cursor x : ℕ) (states : List State) (from : Spot) (r : ℕ) (to : Spot)
     (distance : IsDistance g q.goal to.cell to.left) (way : IsUnderWay g q horizon a states cursor x) where
@@ -91,10 +87,6 @@ module _ (g : Terrain) (q : Request) (horizon : ℕ) (a : Assignment) (cursor x 
                   (entered_into g q horizon a (set states id (offered there.0 e)) from r there.0.spot (a from.cell.0) (a to.cell.0) refl same_cell distance' visited.1),
             )
 
-      pub entered_known : (known : Option ℕ) → IfSome known (IsStateOf states to) → IfSome known (IsNoNews states e) → known ≢ None → IsEntered states
-      entered_known None there news some = absurd (some refl)
-      entered_known (Some id) there news some = entered_before id there (news there.0 there.1)
-
 -- The moves that arrive after so many records or more, but before so many others.
 abbrev pub HasLedBetween : Terrain → Request → ℕ → Assignment → List State → Spot → ℕ → Cell → ℕ → ℕ → Type 0
 HasLedBetween g q horizon a states from r c first last = (t k : ℕ) → r ≤ t → t ≤ from.interval.to → first ≤ place_in (t + 1) (a c.0) → place_in (t + 1) (a c.0) < last
@@ -108,11 +100,6 @@ IsLastArrival g q horizon from c last = (t k : ℕ) → t ≤ from.interval.to �
 pub last_arrival : (g : Terrain) (q : Request) (horizon : ℕ) (from : Spot) (c : Cell) (left room last : ℕ) → IsDistance g q.goal c left → horizon ≤ room + left
     → last ≡ min room (from.interval.to + 1) → IsLastArrival g q horizon from c last
 last_arrival g q horizon from c left room last distance rest is t k until near in_time = omega (arith, distance.least near.left near.way, near.below)
-
--- no move is of use where the last arrival would be before the first
-pub past_none : (g : Terrain) (q : Request) (horizon : ℕ) (a : Assignment) (states : List State) (from : Spot) (r : ℕ) (c : Cell) (first last : ℕ)
-    → IsLastArrival g q horizon from c last → last ≤ r → HasLedPast g q horizon a states from r c first
-past_none g q horizon a states from r c first last latest over t k since until low move near in_time = absurd (omega (arith, latest t k until near in_time))
 
 module _ (g : Terrain) (q : Request) (horizon : ℕ) (a : Assignment) (from : Spot) (r : ℕ) (c : Cell) where
   pub none_between : (states : List State) (first : ℕ) → HasLedBetween g q horizon a states from r c first first
@@ -160,17 +147,6 @@ module _ (g : Terrain) (q : Request) (horizon : ℕ) (a : Assignment) (from : Sp
     past_all states first last led over t k since until low move near in_time =
         let at : place_in (t + 1) records ≡ place_in (t + 1) (a c.0) = ap (λ (rs : List Record). place_in (t + 1) rs) (sym is) in
         led t k since until low (omega (arith, place_within (t + 1) records)) move near in_time
-
-    -- who arrived later would stand where a record is
-    pub past_barred : (states : List State) (first place : ℕ) (b : Record) → HasLedBetween g q horizon a states from r c first place → 0 < place
-        → slice_get records (place - 1) ≡ Some b → from.interval.to < b.to → HasLedPast g q horizon a states from r c first
-    past_barred states first place b led some stands stays t k since until low move near in_time = elim (cases_lt (place_in (t + 1) (a c.0)) place) [
-      | inl less ↦ led t k since until low less move near in_time
-      | inr next ↦
-          let free : covers records (t + 1) ≡ false = rw is at move.untaken in
-          let at : place_in (t + 1) records ≡ place_in (t + 1) (a c.0) = ap (λ (rs : List Record). place_in (t + 1) rs) (sym is) in
-          absurd (false≢true (sym free ∙ begun_covers records (place - 1) (t + 1) b (omega arith) stands (omega arith)))
-    ]
 
     -- a record is there until the last arrival that is of use
     pub past_last : (states : List State) (first place last : ℕ) (b : Record) → HasLedBetween g q horizon a states from r c first place → 0 < place

@@ -29,24 +29,6 @@ use Rattle.sipp_search.proofs.Places.{same_gap}
 abbrev pub IsNew : List State → Spot → Type 0
 IsNew states to = (i : ℕ) (p : Spot) → slice_get (spots_of states) i ≡ Some p → p.cell ≡ to.cell → p.interval ≢ to.interval
 
--- a call that may fail has added a state
-pub sound_if_added : (g : Terrain) (q : Request) (horizon : ℕ) (known : ℕ → Option (List Record)) (size : ℕ) (old new : Arena) {T E : Type 0} (o : Result T E) (to : Spot)
-    → IsSound g q horizon known size old → IsOfArena g q.goal horizon known to → IsNew old.states.items to
-    → OnOk o ((older : ℕ) × (slice_get old.newest to.cell.0 ≡ Some older) × (new.states.items ≡ old.states.items ++ unseen (record to { older = older }) ∷ []))
-    → OnOk o (new.newest ≡ set old.newest to.cell.0 (suc (length old.states.items))) → OnOk o (new.queue ≡ record old.queue { keys = keys_of new.states.items })
-    → new.distances ≡ old.distances → OnOk o (IsSound g q horizon known size new)
-sound_if_added g q horizon known size old new (Ok id) to sound of new_here states newest queue distances =
-    sound_added g q horizon known size old new to states.0 sound of new_here states.1 states.2 newest queue distances
-sound_if_added g q horizon known size old new (Err e) to sound of new_here states newest queue distances = tt
-
--- the state that is added is the spot's
-pub state_if_added : {E : Type 0} (o : Result ℕ E) (old new : List State) (to : Spot) (newest : List ℕ) → IfOk o (λ id. id ≡ length old)
-    → OnOk o ((older : ℕ) × (slice_get newest to.cell.0 ≡ Some older) × (new ≡ old ++ unseen (record to { older = older }) ∷ [])) → IfOk o (IsStateOf new to)
-state_if_added (Ok id) old new to newest place states =
-    let s : State = unseen (record to { older = states.0 }) in
-    (s, rw (place, states.2) (added_stands old s), refl, refl)
-state_if_added (Err e) old new to newest place states = tt
-
 -- What the calendar of a spot's cell tells.
 module _ (g : Terrain) (goal : Cell) (horizon : ℕ) (known : ℕ → Option (List Record)) (p : Spot) (of : IsOfArena g goal horizon known p) (records : List Record)
     (is : known p.cell.0 ≡ Some records) where

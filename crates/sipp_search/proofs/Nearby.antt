@@ -153,9 +153,9 @@ module _ (g : Terrain) (states : List State) (floor : ℕ) (ids : List ℕ) wher
   all_listed n keys waiting all paired there are = record {
     in_grid = are.in_grid;
     listed = λ i r p at key.
-      (let has : slice_get keys i ≡ Some (Some floor) = rw paired (stands_map key_of states i (queued p r) at ∙ ap (λ (k : ℕ). Some (Some k)) key) in
-      let found = there i has in
-      are.listed found.0 i r p (omega (arith, all, slice_get_within ids found.0 i found.1)) found.1 at key);
+        (let has : slice_get keys i ≡ Some (Some floor) = rw paired (stands_map key_of states i (queued p r) at ∙ ap (λ (k : ℕ). Some (Some k)) key) in
+        let found = there i has in
+        are.listed found.0 i r p (omega (arith, all, slice_get_within ids found.0 i found.1)) found.1 at key);
   }
 
   module _ (n x : ℕ) (waiting : List Waiting) (are : AreListed n waiting) (place_is : slice_get ids n ≡ Some x) where

@@ -1,4 +1,4 @@
-ghost use Rattle.std.specs.Prelude.{◌≡◌, ◌≢◌, ℕ, ◌+◌, ◌-◌, ◌<◌, ◌≤◌, false, List, Option, Some, None, IsSome, OnOk, IfOk, IfSome, IfNone, length, slice_get, slice_set, max};
+ghost use Rattle.std.specs.Prelude.{◌≡◌, ◌≢◌, ℕ, ◌+◌, ◌-◌, ◌<◌, ◌≤◌, false, List, Option, Some, None, IsSome, OnOk, IfOk, IfSome, IfNone, length, slice_get, slice_set, max, min};
 ghost use Rattle.std.specs.Bool.{OnTrue, OnFalse};
 ghost use Rattle.fleet_base.specs.declared.request.Record.{Record as ARecord};
 ghost use Rattle.calendars.specs.Places.{place_in};
@@ -14,16 +14,16 @@ ghost use Rattle.sipp_search.specs.Entry.{CanEnter};
 ghost use Rattle.sipp_search.specs.Gaps.{BeginsAfter};
 ghost use Rattle.sipp_search.specs.Arena.{IsOfArena, ComeBefore};
 ghost use Rattle.sipp_search.specs.Progress.{IsUnderWay, Improves};
-ghost use Rattle.sipp_search.specs.Running.{IsReady, IsSound, Serves, KeepsSpots, HasGrown};
+ghost use Rattle.sipp_search.specs.Running.{IsReady, IsSound, Serves, KeepsSpots};
 ghost use Rattle.sipp_search.specs.Visiting.{IsSource, HasLed, HasLedPast, HasLedInto};
 
-use crate::chain::{add_queued, add_state, known_at, place_at};
+use crate::chain::{add_queued, known_at, place_at};
 use crate::states::{Arena, Mark, Spot, State};
 use crate::task::Task;
 use bucket_queue::BucketQueue;
 use calendars::{Calendar, CalendarView};
 use fleet_base::{Cell, Memory, Record};
-use safe_intervals::{Interval, begun_by, crossing_at, gap_at};
+use safe_intervals::{Interval, begun_by, crossing_at};
 
 // The least time at which an agent that is in the first interval since that time could be in the second, if no move were an
 // exchange.
@@ -103,101 +103,6 @@ pub fn offer(
         queue.put(id, key)?;
         states[id].mark = Mark::Queued(arrival);
     }
-    Ok(())
-}
-
-// Whether the state, where one is known, has no arrival that is as early.
-fn is_news(arena: &Arena, known: Option<usize>, entry: u32) -> bool
-    requires { IfSome known (λ id. id < length arena.now.states.items) }
-    ensures worse { OnFalse result (IfSome known (λ id. (s : AState) → slice_get arena.now.states.items id ≡ Some s → offered_mark s.mark entry ≡ s.mark) × (known ≢ None)) }
-{
-    match known {
-        Some(id) => is_better(arena.states[id].mark, entry),
-        None => true,
-    }
-}
-
-// The place of the state that is known, or of an unseen one that is added.
-#[inline(always)]
-fn known_or_new<V: CalendarView>(
-    task: &Task,
-    view: &V,
-    arena: &mut Arena,
-    to: Spot,
-    known: Option<usize>,
-) -> Result<usize, Memory>
-    requires ready { IsReady task.now.grid.now task.now.request task.now.horizon (V.size view.now) }
-    requires sound { IsSound task.now.grid.now task.now.request task.now.horizon (V.known view.now) (V.size view.now) arena.old }
-    requires to { IsOfArena task.now.grid.now task.now.request.goal task.now.horizon (V.known view.now) to }
-    requires known { IfSome known (λ id. (s : AState) × (slice_get arena.old.states.items id ≡ Some s) × (s.spot.cell ≡ to.cell) × (s.spot.interval ≡ to.interval)) }
-    requires new { IfNone known ((i : ℕ) (p : ASpot) → slice_get (spots_of arena.old.states.items) i ≡ Some p → p.cell ≡ to.cell → p.interval ≢ to.interval) }
-    ensures serves { Serves task.now.horizon (length task.now.grid.now.cells) arena.new }
-    ensures sound { OnOk result (IsSound task.now.grid.now task.now.request task.now.horizon (V.known view.now) (V.size view.now) arena.new) }
-    ensures floor { OnOk result (arena.new.queue.floor ≡ arena.old.queue.floor) }
-    ensures grown { OnOk result (HasGrown arena.old.states.items arena.new.states.items) }
-    ensures place { IfOk result (λ id. (s : AState) × (slice_get arena.new.states.items id ≡ Some s) × (s.spot.cell ≡ to.cell) × (s.spot.interval ≡ to.interval)) }
-{
-    match known {
-        Some(id) => Ok(id),
-        None => add_state(arena, to),
-    }
-}
-
-// Makes the earliest move out of the spot, where the agent is since `arrival`, into another one, whose state is that one if
-// it has one.
-#[inline(always)]
-fn enter<V: CalendarView>(
-    task: &Task,
-    view: &V,
-    arena: &mut Arena,
-    from: Spot,
-    arrival: u32,
-    to: Spot,
-    known: Option<usize>,
-) -> Result<(), Memory>
-    requires ready { IsReady task.now.grid.now task.now.request task.now.horizon (V.size view.now) }
-    requires sound { IsSound task.now.grid.now task.now.request task.now.horizon (V.known view.now) (V.size view.now) arena.old }
-    requires placed { (i : ℕ) × (slice_get (spots_of arena.old.states.items) i ≡ Some from) }
-    requires arrived { IsIn arrival from.interval }
-    requires to { IsOfArena task.now.grid.now task.now.request.goal task.now.horizon (V.known view.now) to }
-    requires known { IfSome known (λ id. (s : AState) × (slice_get arena.old.states.items id ≡ Some s) × (s.spot.cell ≡ to.cell) × (s.spot.interval ≡ to.interval)) }
-    requires new { IfNone known ((i : ℕ) (p : ASpot) → slice_get (spots_of arena.old.states.items) i ≡ Some p → p.cell ≡ to.cell → p.interval ≢ to.interval) }
-    requires low { arena.old.queue.floor ≤ arrival + 1 + to.left }
-    ensures serves { Serves task.now.horizon (length task.now.grid.now.cells) arena.new }
-    ensures sound { OnOk result (IsSound task.now.grid.now task.now.request task.now.horizon (V.known view.now) (V.size view.now) arena.new) }
-    ensures floor { OnOk result (arena.new.queue.floor ≡ arena.old.queue.floor) }
-    ensures spots { OnOk result (KeepsSpots arena.old.states.items arena.new.states.items) }
-    ensures improves { OnOk result (Improves arena.old.states.items arena.new.states.items) }
-    ensures led { OnOk result ((a : Assignment) (x : ℕ) → Agrees a (V.known view.now) → IsSource task.now.grid.now task.now.request task.now.horizon a from arrival to.cell
-        → IsUnderWay task.now.grid.now task.now.request task.now.horizon a arena.old.states.items arena.old.queue.floor x
-        → IsUnderWay task.now.grid.now task.now.request task.now.horizon a arena.new.states.items arena.old.queue.floor x
-        × HasLedInto task.now.grid.now task.now.request task.now.horizon a arena.new.states.items from arrival to.cell to.interval) }
-{
-    let Some(entry) = first_entry(from.interval, to.interval, arrival) else {
-        return Ok(());
-    };
-    let Some(room) = task.horizon.checked_sub(entry) else {
-        return Ok(());
-    };
-    if to.left > room {
-        return Ok(());
-    }
-    if !is_news(&*arena, known, entry) {
-        return Ok(());
-    }
-    // Where the earliest move is an exchange, no later one is free.
-    if is_barred(
-        view.calendar(from.cell),
-        view.calendar(to.cell),
-        from,
-        to,
-        entry,
-    ) {
-        return Ok(());
-    }
-    let id = known_or_new(task, view, arena, to, known)?;
-    let key = entry + to.left;
-    offer(&mut arena.states, &mut arena.queue, id, entry, key)?;
     Ok(())
 }
 
@@ -289,6 +194,23 @@ fn enter_at<V: CalendarView>(
     Ok(())
 }
 
+// The latest arrival that is of use: who leaves has left by then, and the way that is left ends by the horizon. None where
+// that isn't after the arrival in the spot.
+#[inline(always)]
+fn last_entry(task: &Task, from: Spot, arrival: u32, left: u32) -> Option<u32>
+    requires times { from.interval.to ≤ 8000 }
+    requires until { arrival ≤ from.interval.to }
+    ensures some { IfSome result (λ last. (last ≡ min (task.now.horizon - left) (from.interval.to + 1)) × (left ≤ task.now.horizon) × (arrival < last)) }
+    ensures none { IfNone result (task.now.horizon ≤ arrival + left) }
+{
+    let room = task.horizon.checked_sub(left)?;
+    let last = room.min(from.interval.to + 1);
+    if last <= arrival {
+        return None;
+    }
+    Some(last)
+}
+
 // When the gap after so many records begins, where that is by `last`.
 #[inline(always)]
 fn begin_by(records: &[Record], place: usize, last: u32) -> Option<u32>
@@ -358,14 +280,9 @@ fn enter_later<V: CalendarView>(
         → IsUnderWay task.now.grid.now task.now.request task.now.horizon a arena.new.states.items arena.old.queue.floor x
         × HasLedPast task.now.grid.now task.now.request task.now.horizon a arena.new.states.items from arrival to first) }
 {
-    let Some(room) = task.horizon.checked_sub(left) else {
+    let Some(last) = last_entry(task, from, arrival, left) else {
         return Ok(());
     };
-    // No later arrival is of use: who leaves has left by then, and the way that is left ends by the horizon.
-    let last = room.min(from.interval.to + 1);
-    if arrival >= last {
-        return Ok(());
-    }
     let there = view.calendar(to);
     let records = there.records();
     for place in first..records.len() + 1 {
@@ -420,14 +337,9 @@ fn enter_fresh<V: CalendarView>(
         → IsUnderWay task.now.grid.now task.now.request task.now.horizon a arena.new.states.items arena.old.queue.floor x
         × HasLedPast task.now.grid.now task.now.request task.now.horizon a arena.new.states.items from arrival to first) }
 {
-    let Some(room) = task.horizon.checked_sub(left) else {
+    let Some(last) = last_entry(task, from, arrival, left) else {
         return Ok(());
     };
-    // No later arrival is of use: who leaves has left by then, and the way that is left ends by the horizon.
-    let last = room.min(from.interval.to + 1);
-    if arrival >= last {
-        return Ok(());
-    }
     let there = view.calendar(to);
     let records = there.records();
     for place in first..records.len() + 1 {
@@ -519,7 +431,32 @@ fn enter_known<V: CalendarView>(
     if is_final(state.mark) {
         return Ok(());
     }
-    enter(task, view, arena, from, arrival, state.spot, Some(id))
+    let to = state.spot;
+    let Some(entry) = first_entry(from.interval, to.interval, arrival) else {
+        return Ok(());
+    };
+    let Some(room) = task.horizon.checked_sub(entry) else {
+        return Ok(());
+    };
+    if to.left > room {
+        return Ok(());
+    }
+    if !is_better(state.mark, entry) {
+        return Ok(());
+    }
+    // Where the earliest move is an exchange, no later one is free.
+    let here = view.calendar(from.cell);
+    if is_barred(here, view.calendar(to.cell), from, to, entry) {
+        return Ok(());
+    }
+    offer(
+        &mut arena.states,
+        &mut arena.queue,
+        id,
+        entry,
+        entry + to.left,
+    )?;
+    Ok(())
 }
 
 // Makes the moves out of the spot, where the agent is since `arrival`, into the safe intervals of a known cell beside it.

@@ -1,4 +1,4 @@
-use Rattle.std.proofs.Common.{arith, subst, None, sym, ap, ◌∙◌, ◌≡◌, ◌+◌, ℕ, length}
+use Rattle.std.proofs.Common.{arith, subst, None, sym, ap, ◌∙◌, ◌≡◌, ◌+◌, ◌-◌, ℕ, length}
 use Rattle.safe_intervals.specs.Safe.{IsGapAt, NoneSafeAt}
 use Rattle.sipp_search.specs.declared.states.Spot.{Spot}
 use Rattle.sipp_search.specs.Arena.{IsOfArena}
@@ -6,14 +6,14 @@ use Rattle.sipp_search.specs.Marks.{spots_of}
 use Rattle.sipp_search.specs.Progress.{IsUnderWay}
 use Rattle.sipp_search.proofs.Marking.{improves-trans}
 use Rattle.sipp_search.proofs.Places.{in_gap}
-use Rattle.sipp_search.proofs.Entering.{between_more, between_none, between_over, past_all, past_none, past_last, last_arrival}
+use Rattle.sipp_search.proofs.Entering.{between_more, between_none, between_over, past_all, past_last, last_arrival}
 use Rattle.sipp_search.proofs.Growing.{new_there}
 use Rattle.sipp_search.proofs.Fresh.{none_at, before_more}
 use Rattle.sipp_search.proofs.enter.enter_fresh.Goals.{in-Some-gap_since+then-entry-interval+in_ok-enter_new, in-Some-gap_since+else-entry-interval, in_default-gap_since}
 use Rattle.sipp_search.proofs.enter.enter_fresh.Goals as goal
 
-pub overflow_add-from : goal.overflow_add-from
-overflow_add-from g c =
+pub last_entry-requires-clause-times : goal.last_entry-requires-clause-times
+last_entry-requires-clause-times g c =
     let of = c.requires.sound.arranged.each c.requires.placed.0 c.args.from c.requires.placed.1 in
     omega (arith, of.safe.within, c.requires.ready.in_range)
 
@@ -42,24 +42,15 @@ returns-clause-led g c = λ a x agrees source way.
 
 pub returns-in_default-clause-led : goal.returns-in_default-clause-led
 returns-in_default-clause-led g c = λ a x agrees source way.
-    (way, (λ t k since until low move near in_time. absurd (omega (arith, c.in_default.ensures, c.requires.distance.least near.left near.way, near.below))))
-
-pub returns-then-arrival-last-clause-led : goal.returns-then-arrival-last-clause-led
-returns-then-arrival-last-clause-led g c = λ a x agrees source way.
-    (let latest = last_arrival c.args.task.now.grid.now c.args.task.now.request c.args.task.now.horizon c.args.from c.args.to c.args.left c.in-Some.room _ c.requires.distance
-    (omega (arith, c.in-Some.ensures)) c.min-last.ensures in (
-      way,
-      past_none c.args.task.now.grid.now c.args.task.now.request c.args.task.now.horizon a c.args.arena.now.states.items c.args.from c.args.arrival c.args.to c.args.first _ latest
-          c.if-arrival-last.true,
-    ))
+    (way, (λ t k since until low move near in_time. absurd (omega (arith, c.in_default.ensures.none, since, in_time, c.requires.distance.least near.left near.way, near.below))))
 
 pub returns-in_default-begin_by-clause-led : goal.returns-in_default-begin_by-clause-led
 returns-in_default-begin_by-clause-led g c = λ a x agrees source way.
     (let both = c.loop-place.invariant.led a x agrees source way in
     let records = c.calendar-there.result.now in
     let there : a c.args.to.0 ≡ records = agrees c.args.to.0 _ c.calendar-there.ensures in
-    let latest = last_arrival c.args.task.now.grid.now c.args.task.now.request c.args.task.now.horizon c.args.from c.args.to c.args.left c.in-Some.room _ c.requires.distance
-    (omega (arith, c.in-Some.ensures)) c.min-last.ensures in
+    let latest = last_arrival c.args.task.now.grid.now c.args.task.now.request c.args.task.now.horizon c.args.from c.args.to c.args.left (c.args.task.now.horizon - c.args.left) c.in-Some.last c.requires.distance
+    (omega arith) c.in-Some.ensures.some.0 in
     let gone = rw c.records-records.ensures.value at c.in_default-begin_by.ensures.none in (
       both.0,
       past_last c.args.task.now.grid.now c.args.task.now.request c.args.task.now.horizon a c.args.from c.args.arrival c.args.to records there

@@ -9,8 +9,8 @@ pub returns-in_err-arrival-clause-none : goal.returns-in_err-arrival-clause-none
 returns-in_err-arrival-clause-none c =
     let at = state_there c.args.arena.now.states.items c.args.id c.index-state.result.now c.index-state.result.now c.index-state.ensures (omega (arith, c.if-id-len.false, c.len.ensures)) in
     rw c.from_residual.ensures (λ p r is.
-      (let same : c.index-state.result.now ≡ queued p r = same_Some c.index-state.result.now (queued p r) (sym at ∙ is) in
-      λ key. c.in_err-arrival.ensures.none r (same ∙ ap (λ (z : State). queued z.spot r) (sym same)) (ap (λ (z : State). r + z.spot.left) same ∙ key)))
+    (let same : c.index-state.result.now ≡ queued p r = same_Some c.index-state.result.now (queued p r) (sym at ∙ is) in
+    λ key. c.in_err-arrival.ensures.none r (same ∙ ap (λ (z : State). queued z.spot r) (sym same)) (ap (λ (z : State). r + z.spot.left) same ∙ key)))
 
 pub place_of-requires : goal.place_of-requires
 place_of-requires c =
