@@ -1,10 +1,9 @@
 -- A state is added, or offered an arrival: the arena stays sound.
-use Rattle.std.proofs.Common.{arith, subst, sym, ap, ◌∙◌, refl, set}
+use Rattle.std.proofs.Common.{arith, subst, sym, ap, ◌∙◌}
 use Rattle.std.proofs.lemmas.Option.{same_Some, slice_get_within, get_or_from_slice_get}
-use Rattle.std.specs.Prelude.{◌≡◌, ◌≢◌, ℕ, suc, ◌+◌, ◌++◌, ◌∷◌, [], ◌-◌, ◌<◌, ◌≤◌, false, List, Option, Some, None, Result, Ok, Err, OnOk, IfOk, IfSome, IfNone, length, slice_get, get_or}
+use Rattle.std.specs.Prelude.{◌≡◌, ◌≢◌, ℕ, ◌+◌, ◌-◌, ◌<◌, ◌≤◌, false, List, Option, Some, None, IfSome, IfNone, length, slice_get, get_or}
 use Rattle.fleet_base.specs.declared.grid.Cell.{Cell}
 use Rattle.fleet_base.specs.declared.request.Record.{Record}
-use Rattle.fleet_base.specs.declared.request.Request.{Request}
 use Rattle.fleet_base.specs.Terrain.{Terrain}
 use Rattle.calendars.specs.Places.{place_in}
 use Rattle.calendars.specs.Records.{covers, InOrder}
@@ -13,14 +12,11 @@ use Rattle.safe_intervals.specs.Safe.{IsIn, IsGapAt}
 use Rattle.static_distance.specs.Distance.{IsDistance}
 use Rattle.sipp_search.specs.declared.states.Spot.{Spot}
 use Rattle.sipp_search.specs.declared.states.State.{State}
-use Rattle.sipp_search.specs.declared.states.Arena.{Arena}
-use Rattle.sipp_search.specs.Marks.{spots_of, keys_of, unseen}
+use Rattle.sipp_search.specs.Marks.{spots_of}
 use Rattle.sipp_search.specs.Arena.{IsOfArena, IsArena}
 use Rattle.sipp_search.specs.Progress.{IsBound}
-use Rattle.sipp_search.specs.Running.{IsSound}
 use Rattle.sipp_search.proofs.Lists.{stands_map, map_stands}
-use Rattle.sipp_search.proofs.Chains.{added_stands, newest_state}
-use Rattle.sipp_search.proofs.Serving.{sound_added}
+use Rattle.sipp_search.proofs.Chains.{newest_state}
 use Rattle.sipp_search.proofs.Entering.{IsStateOf}
 use Rattle.sipp_search.proofs.Counted.{place_bounded}
 use Rattle.sipp_search.proofs.Places.{same_gap}

@@ -113,12 +113,16 @@ fn enter_new<V: CalendarView>(
     task: &Task,
     view: &V,
     arena: &mut Arena,
+    here: &Calendar,
+    there: &Calendar,
     from: Spot,
     to: Spot,
     entry: u32,
 ) -> Result<(), Memory>
     requires ready { IsReady task.now.grid.now task.now.request task.now.horizon (V.size view.now) }
     requires sound { IsSound task.now.grid.now task.now.request task.now.horizon (V.known view.now) (V.size view.now) arena.old }
+    requires here { V.known view.now from.cell.0 ≡ Some here.now }
+    requires there { V.known view.now to.cell.0 ≡ Some there.now }
     requires placed { (i : ℕ) × (slice_get (spots_of arena.old.states.items) i ≡ Some from) }
     requires to { IsOfArena task.now.grid.now task.now.request.goal task.now.horizon (V.known view.now) to }
     requires new { (i : ℕ) (p : ASpot) → slice_get (spots_of arena.old.states.items) i ≡ Some p → p.cell ≡ to.cell → p.interval ≢ to.interval }
@@ -140,8 +144,7 @@ fn enter_new<V: CalendarView>(
     ensures before { OnOk result ((n : ℕ) → ComeBefore (spots_of arena.old.states.items) to.cell n → to.place < n → ComeBefore (spots_of arena.new.states.items) to.cell n) }
 {
     // Where the earliest move is an exchange, no later one is free.
-    let here = view.calendar(from.cell);
-    if is_barred(here, view.calendar(to.cell), from, to, entry) {
+    if is_barred(here, there, from, to, entry) {
         return Ok(());
     }
     add_queued(arena, to, entry, entry + to.left)?;
@@ -154,12 +157,16 @@ fn enter_at<V: CalendarView>(
     task: &Task,
     view: &V,
     arena: &mut Arena,
+    here: &Calendar,
+    there: &Calendar,
     from: Spot,
     to: Spot,
     entry: u32,
 ) -> Result<(), Memory>
     requires ready { IsReady task.now.grid.now task.now.request task.now.horizon (V.size view.now) }
     requires sound { IsSound task.now.grid.now task.now.request task.now.horizon (V.known view.now) (V.size view.now) arena.old }
+    requires here { V.known view.now from.cell.0 ≡ Some here.now }
+    requires there { V.known view.now to.cell.0 ≡ Some there.now }
     requires placed { (i : ℕ) × (slice_get (spots_of arena.old.states.items) i ≡ Some from) }
     requires to { IsOfArena task.now.grid.now task.now.request.goal task.now.horizon (V.known view.now) to }
     requires begun { from.interval.from < entry }
@@ -178,8 +185,6 @@ fn enter_at<V: CalendarView>(
         → IsUnderWay task.now.grid.now task.now.request task.now.horizon a arena.new.states.items arena.old.queue.floor x
         × HasLedInto task.now.grid.now task.now.request task.now.horizon a arena.new.states.items from r to.cell to.interval) }
 {
-    let here = view.calendar(from.cell);
-    let there = view.calendar(to.cell);
     // Where the earliest move is an exchange, no later one is free. That is asked first, since most such moves in a warehouse are.
     if is_barred(here, there, from, to, entry) {
         return Ok(());
@@ -283,6 +288,7 @@ fn enter_later<V: CalendarView>(
     let Some(last) = last_entry(task, from, arrival, left) else {
         return Ok(());
     };
+    let here = view.calendar(from.cell);
     let there = view.calendar(to);
     let records = there.records();
     for place in first..records.len() + 1 {
@@ -299,7 +305,7 @@ fn enter_later<V: CalendarView>(
                     place,
                     older: 0,
                 };
-                enter_at(task, view, arena, from, spot, entry)?;
+                enter_at(task, view, arena, here, there, from, spot, entry)?;
             }
         }
     }
@@ -340,6 +346,7 @@ fn enter_fresh<V: CalendarView>(
     let Some(last) = last_entry(task, from, arrival, left) else {
         return Ok(());
     };
+    let here = view.calendar(from.cell);
     let there = view.calendar(to);
     let records = there.records();
     for place in first..records.len() + 1 {
@@ -356,7 +363,7 @@ fn enter_fresh<V: CalendarView>(
                     place,
                     older: 0,
                 };
-                enter_new(task, view, arena, from, spot, entry)?;
+                enter_new(task, view, arena, here, there, from, spot, entry)?;
             }
         }
     }

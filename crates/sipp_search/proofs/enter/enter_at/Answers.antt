@@ -15,11 +15,6 @@ use Rattle.sipp_search.proofs.Growing.{free_by, same_left, known_there, new_ther
 use Rattle.sipp_search.proofs.Fresh.{queued_spots, queued_improves, queued_led}
 use Rattle.sipp_search.proofs.enter.enter_at.Goals as goal
 
-pub calendar-here-requires : goal.calendar-here-requires
-calendar-here-requires g c =
-    let of = c.requires.sound.arranged.each c.requires.placed.0 c.args.from c.requires.placed.1 in
-    rw of.known_is refl
-
 pub is_barred-requires-clause-times : goal.is_barred-requires-clause-times
 is_barred-requires-clause-times g c =
     let of = c.requires.sound.arranged.each c.requires.placed.0 c.args.from c.requires.placed.1 in
@@ -28,22 +23,22 @@ is_barred-requires-clause-times g c =
 pub is_barred-requires-clause-here : goal.is_barred-requires-clause-here
 is_barred-requires-clause-here g c =
     free_by c.args.task.now.grid.now c.args.task.now.request.goal c.args.task.now.horizon (g.V.CalendarView.known c.args.view.now) c.args.from
-    (c.requires.sound.arranged.each c.requires.placed.0 c.args.from c.requires.placed.1) c.calendar-here.result.now c.calendar-here.ensures
+    (c.requires.sound.arranged.each c.requires.placed.0 c.args.from c.requires.placed.1) c.args.here.now c.requires.here
 
 pub returns-then-is_barred-clause-led : goal.returns-then-is_barred-clause-led
 returns-then-is_barred-clause-led g c = λ a x r agrees source is way.
-    (let here : a c.args.from.cell.0 ≡ c.calendar-here.result.now = agrees c.args.from.cell.0 _ c.calendar-here.ensures in
-    let there : a c.args.to.cell.0 ≡ c.calendar-there.result.now = agrees c.args.to.cell.0 _ c.calendar-there.ensures in
+    (let here : a c.args.from.cell.0 ≡ c.args.here.now = agrees c.args.from.cell.0 _ c.requires.here in
+    let there : a c.args.to.cell.0 ≡ c.args.there.now = agrees c.args.to.cell.0 _ c.requires.there in
     entered_never c.args.task.now.grid.now c.args.task.now.request c.args.task.now.horizon a c.args.arena.now.queue.floor x c.args.arena.now.states.items c.args.from r c.args.to
     c.requires.to.distance way
-    (rw (here, there) (earliest_bars c.calendar-here.result.now c.calendar-there.result.now c.args.from.interval c.args.to.interval r c.args.entry c.if-is_barred.ensures.ordered
+    (rw (here, there) (earliest_bars c.args.here.now c.args.there.now c.args.from.interval c.args.to.interval r c.args.entry c.if-is_barred.ensures.ordered
     (λ t at. rw here at (source.safe.free t at)) source.arrived.inside.0 is (sym c.if-is_barred.ensures.barred))))
 
 pub returns-in_default-clause-sound : goal.returns-in_default-clause-sound
 returns-in_default-clause-sound g c =
     let states = c.in_ok-add_queued.ensures.states in
     let new = new_there c.args.task.now.grid.now c.args.task.now.request.goal c.args.task.now.horizon (g.V.CalendarView.known c.args.view.now) c.args.arena.now.states.items c.args.arena.now.newest
-    c.requires.sound.arranged c.args.to c.requires.to (subst (λ (xs : List Record). InOrder xs) (same_Some _ _ (sym c.calendar-there.ensures ∙ c.requires.to.known_is)) c.records-in_order.ensures.ordered) None c.in_default.ensures.none in
+    c.requires.sound.arranged c.args.to c.requires.to (subst (λ (xs : List Record). InOrder xs) (same_Some _ _ (sym c.requires.there ∙ c.requires.to.known_is)) c.records-in_order.ensures.ordered) None c.in_default.ensures.none in
     sound_marked c.args.task.now.grid.now c.args.task.now.request c.args.task.now.horizon (g.V.CalendarView.known c.args.view.now) (g.V.CalendarView.size c.args.view.now)
     c.args.arena.now c.add_queued.new.arena c.args.to states.0 (Queued c.args.entry) c.requires.sound c.requires.to new states.1 states.2
     c.in_ok-add_queued.ensures.newest c.in_ok-add_queued.ensures.queue c.in_ok-add_queued.ensures.distances
@@ -64,9 +59,9 @@ returns-in_default-clause-led g c = λ a x r agrees source is way.
     let q = c.args.task.now.request in
     let horizon = c.args.task.now.horizon in
     let known = g.V.CalendarView.known c.args.view.now in
-    let here : a c.args.from.cell.0 ≡ c.calendar-here.result.now = agrees c.args.from.cell.0 _ c.calendar-here.ensures in
-    let there : a c.args.to.cell.0 ≡ c.calendar-there.result.now = agrees c.args.to.cell.0 _ c.calendar-there.ensures in
-    let unbarred : is_exchange (a c.args.from.cell.0) (a c.args.to.cell.0) (c.args.entry - 1) ≡ false = rw (here, there) (sym {b = is_exchange c.calendar-here.result.now c.calendar-there.result.now (c.args.entry - 1)} c.if-is_barred.ensures.barred) in
+    let here : a c.args.from.cell.0 ≡ c.args.here.now = agrees c.args.from.cell.0 _ c.requires.here in
+    let there : a c.args.to.cell.0 ≡ c.args.there.now = agrees c.args.to.cell.0 _ c.requires.there in
+    let unbarred : is_exchange (a c.args.from.cell.0) (a c.args.to.cell.0) (c.args.entry - 1) ≡ false = rw (here, there) (sym {b = is_exchange c.args.here.now c.args.there.now (c.args.entry - 1)} c.if-is_barred.ensures.barred) in
     let entry = earliest_enters (a c.args.from.cell.0) (a c.args.to.cell.0) c.args.from.interval c.args.to.interval r c.args.entry is unbarred c.requires.until c.requires.lands.1 in
     let states = c.in_ok-add_queued.ensures.states in
     let spot : Spot = record c.args.to { older = states.0 } in
@@ -81,7 +76,7 @@ offer-requires-clause-known g c = slice_get_within c.args.arena.now.states.items
 pub offer-requires-clause-key : goal.offer-requires-clause-key
 offer-requires-clause-key g c = λ s at.
     (let mine = known_there c.args.task.now.grid.now c.args.task.now.request.goal c.args.task.now.horizon (g.V.CalendarView.known c.args.view.now) c.args.arena.now.states.items c.args.arena.now.newest
-    c.requires.sound.arranged c.args.to c.requires.to (subst (λ (xs : List Record). InOrder xs) (same_Some _ _ (sym c.calendar-there.ensures ∙ c.requires.to.known_is)) c.records-in_order.ensures.ordered)
+    c.requires.sound.arranged c.args.to c.requires.to (subst (λ (xs : List Record). InOrder xs) (same_Some _ _ (sym c.requires.there ∙ c.requires.to.known_is)) c.records-in_order.ensures.ordered)
     (Some c.in-Some.id) c.in-Some.ensures.some in
     let left = same_left c.args.task.now.grid.now c.args.task.now.request.goal c.args.task.now.horizon (g.V.CalendarView.known c.args.view.now) c.args.arena.now.states.items c.args.arena.now.newest
     c.args.to c.in-Some.id s c.requires.ready.bound c.requires.sound.arranged c.requires.to.distance mine at in
@@ -110,12 +105,12 @@ returns-clause-led g c = λ a x r agrees source is way.
     let horizon = c.args.task.now.horizon in
     let known = g.V.CalendarView.known c.args.view.now in
     let old = c.args.arena.now.states.items in
-    let here : a c.args.from.cell.0 ≡ c.calendar-here.result.now = agrees c.args.from.cell.0 _ c.calendar-here.ensures in
-    let there : a c.args.to.cell.0 ≡ c.calendar-there.result.now = agrees c.args.to.cell.0 _ c.calendar-there.ensures in
-    let unbarred : is_exchange (a c.args.from.cell.0) (a c.args.to.cell.0) (c.args.entry - 1) ≡ false = rw (here, there) (sym {b = is_exchange c.calendar-here.result.now c.calendar-there.result.now (c.args.entry - 1)} c.if-is_barred.ensures.barred) in
+    let here : a c.args.from.cell.0 ≡ c.args.here.now = agrees c.args.from.cell.0 _ c.requires.here in
+    let there : a c.args.to.cell.0 ≡ c.args.there.now = agrees c.args.to.cell.0 _ c.requires.there in
+    let unbarred : is_exchange (a c.args.from.cell.0) (a c.args.to.cell.0) (c.args.entry - 1) ≡ false = rw (here, there) (sym {b = is_exchange c.args.here.now c.args.there.now (c.args.entry - 1)} c.if-is_barred.ensures.barred) in
     let entry = earliest_enters (a c.args.from.cell.0) (a c.args.to.cell.0) c.args.from.interval c.args.to.interval r c.args.entry is unbarred c.requires.until c.requires.lands.1 in
     let mine = known_there terrain q.goal horizon known old c.args.arena.now.newest
-    c.requires.sound.arranged c.args.to c.requires.to (subst (λ (xs : List Record). InOrder xs) (same_Some _ _ (sym c.calendar-there.ensures ∙ c.requires.to.known_is)) c.records-in_order.ensures.ordered)
+    c.requires.sound.arranged c.args.to c.requires.to (subst (λ (xs : List Record). InOrder xs) (same_Some _ _ (sym c.requires.there ∙ c.requires.to.known_is)) c.records-in_order.ensures.ordered)
     (Some c.in-Some.id) c.in-Some.ensures.some in
     rw (c.in_ok-offer.ensures.states mine.0 mine.1) (entered_first terrain q horizon a c.args.arena.now.queue.floor x old c.args.from r c.args.to c.requires.to.distance
     way c.args.entry is source

@@ -1,4 +1,4 @@
-use Rattle.std.proofs.Common.{arith, subst, None, sym, ap, ◌∙◌, ◌≡◌, ◌+◌, ◌-◌, ℕ, length}
+use Rattle.std.proofs.Common.{arith, subst, None, sym, ap, refl, ◌∙◌, ◌≡◌, ◌+◌, ◌-◌, ℕ, length}
 use Rattle.safe_intervals.specs.Safe.{IsGapAt, NoneSafeAt}
 use Rattle.sipp_search.specs.declared.states.Spot.{Spot}
 use Rattle.sipp_search.specs.Arena.{IsOfArena}
@@ -11,6 +11,11 @@ use Rattle.sipp_search.proofs.Growing.{new_there}
 use Rattle.sipp_search.proofs.Fresh.{none_at, before_more}
 use Rattle.sipp_search.proofs.enter.enter_fresh.Goals.{in-Some-gap_since+then-entry-interval+in_ok-enter_new, in-Some-gap_since+else-entry-interval, in_default-gap_since}
 use Rattle.sipp_search.proofs.enter.enter_fresh.Goals as goal
+
+pub calendar-here-requires : goal.calendar-here-requires
+calendar-here-requires g c =
+    let of = c.requires.sound.arranged.each c.requires.placed.0 c.args.from c.requires.placed.1 in
+    rw of.known_is refl
 
 pub last_entry-requires-clause-times : goal.last_entry-requires-clause-times
 last_entry-requires-clause-times g c =

@@ -1,4 +1,4 @@
-use Rattle.std.proofs.Common.{arith, sym, ap, refl, ◌≡◌, ◌+◌, ◌-◌, max, false}
+use Rattle.std.proofs.Common.{arith, sym, refl, ◌≡◌, ◌+◌, ◌-◌, max, false}
 use Rattle.std.proofs.lemmas.Option.{slice_get_within}
 use Rattle.calendars.specs.Records.{is_exchange}
 use Rattle.sipp_search.specs.declared.states.State.{State}

@@ -1,4 +1,4 @@
-use Rattle.std.proofs.Common.{arith, subst, sym, ap, ◌∙◌, ◌≡◌, ◌-◌, ℕ, length}
+use Rattle.std.proofs.Common.{arith, subst, sym, ap, refl, ◌∙◌, ◌≡◌, ◌-◌, ℕ, length}
 use Rattle.safe_intervals.specs.Safe.{IsGapAt, NoneSafeAt}
 use Rattle.sipp_search.specs.Progress.{IsUnderWay}
 use Rattle.sipp_search.proofs.Marking.{improves-trans}
@@ -6,6 +6,11 @@ use Rattle.sipp_search.proofs.Places.{in_gap}
 use Rattle.sipp_search.proofs.Entering.{between_more, between_none, between_over, past_all, past_last, last_arrival}
 use Rattle.sipp_search.proofs.enter.enter_later.Goals.{in-Some-gap_since+then-entry-interval+in_ok-enter_at, in-Some-gap_since+else-entry-interval, in_default-gap_since}
 use Rattle.sipp_search.proofs.enter.enter_later.Goals as goal
+
+pub calendar-here-requires : goal.calendar-here-requires
+calendar-here-requires g c =
+    let of = c.requires.sound.arranged.each c.requires.placed.0 c.args.from c.requires.placed.1 in
+    rw of.known_is refl
 
 pub last_entry-requires-clause-times : goal.last_entry-requires-clause-times
 last_entry-requires-clause-times g c =

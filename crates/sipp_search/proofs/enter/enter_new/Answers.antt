@@ -13,20 +13,12 @@ use Rattle.sipp_search.proofs.enter.enter_new.Goals as goal
 
 pub returns-then-is_barred-clause-led : goal.returns-then-is_barred-clause-led
 returns-then-is_barred-clause-led g c = λ a x r agrees source is way.
-    (let here : a c.args.from.cell.0 ≡ c.calendar-here.result.now = agrees c.args.from.cell.0 _ c.calendar-here.ensures in
-    let there : a c.args.to.cell.0 ≡ c.calendar.result.now = agrees c.args.to.cell.0 _ c.calendar.ensures in
+    (let here : a c.args.from.cell.0 ≡ c.args.here.now = agrees c.args.from.cell.0 _ c.requires.here in
+    let there : a c.args.to.cell.0 ≡ c.args.there.now = agrees c.args.to.cell.0 _ c.requires.there in
     entered_never c.args.task.now.grid.now c.args.task.now.request c.args.task.now.horizon a c.args.arena.now.queue.floor x c.args.arena.now.states.items c.args.from r c.args.to
     c.requires.to.distance way
-    (rw (here, there) (earliest_bars c.calendar-here.result.now c.calendar.result.now c.args.from.interval c.args.to.interval r c.args.entry c.if-is_barred.ensures.ordered
+    (rw (here, there) (earliest_bars c.args.here.now c.args.there.now c.args.from.interval c.args.to.interval r c.args.entry c.if-is_barred.ensures.ordered
     (λ t at. rw here at (source.safe.free t at)) source.arrived.inside.0 is (sym c.if-is_barred.ensures.barred))))
-
-pub calendar-here-requires : goal.calendar-here-requires
-calendar-here-requires g c =
-    let of = c.requires.sound.arranged.each c.requires.placed.0 c.args.from c.requires.placed.1 in
-    rw of.known_is refl
-
-pub calendar-requires : goal.calendar-requires
-calendar-requires g c = rw c.requires.to.known_is refl
 
 pub is_barred-requires-clause-times : goal.is_barred-requires-clause-times
 is_barred-requires-clause-times g c =
@@ -36,12 +28,12 @@ is_barred-requires-clause-times g c =
 pub is_barred-requires-clause-here : goal.is_barred-requires-clause-here
 is_barred-requires-clause-here g c =
     free_by c.args.task.now.grid.now c.args.task.now.request.goal c.args.task.now.horizon (g.V.CalendarView.known c.args.view.now) c.args.from
-    (c.requires.sound.arranged.each c.requires.placed.0 c.args.from c.requires.placed.1) c.calendar-here.result.now c.calendar-here.ensures
+    (c.requires.sound.arranged.each c.requires.placed.0 c.args.from c.requires.placed.1) c.args.here.now c.requires.here
 
 pub is_barred-requires-clause-there : goal.is_barred-requires-clause-there
 is_barred-requires-clause-there g c =
     free_by c.args.task.now.grid.now c.args.task.now.request.goal c.args.task.now.horizon (g.V.CalendarView.known c.args.view.now) c.args.to
-    c.requires.to c.calendar.result.now c.calendar.ensures
+    c.requires.to c.args.there.now c.requires.there
 
 pub add_queued-requires-clause-high : goal.add_queued-requires-clause-high
 add_queued-requires-clause-high g c = omega (arith, c.requires.sound.bound, c.requires.in_time)
@@ -74,9 +66,9 @@ returns-clause-led g c = λ a x r agrees source is way.
     let q = c.args.task.now.request in
     let horizon = c.args.task.now.horizon in
     let known = g.V.CalendarView.known c.args.view.now in
-    let here : a c.args.from.cell.0 ≡ c.calendar-here.result.now = agrees c.args.from.cell.0 _ c.calendar-here.ensures in
-    let there : a c.args.to.cell.0 ≡ c.calendar.result.now = agrees c.args.to.cell.0 _ c.calendar.ensures in
-    let unbarred : is_exchange (a c.args.from.cell.0) (a c.args.to.cell.0) (c.args.entry - 1) ≡ false = rw (here, there) (sym {b = is_exchange c.calendar-here.result.now c.calendar.result.now (c.args.entry - 1)} c.if-is_barred.ensures.barred) in
+    let here : a c.args.from.cell.0 ≡ c.args.here.now = agrees c.args.from.cell.0 _ c.requires.here in
+    let there : a c.args.to.cell.0 ≡ c.args.there.now = agrees c.args.to.cell.0 _ c.requires.there in
+    let unbarred : is_exchange (a c.args.from.cell.0) (a c.args.to.cell.0) (c.args.entry - 1) ≡ false = rw (here, there) (sym {b = is_exchange c.args.here.now c.args.there.now (c.args.entry - 1)} c.if-is_barred.ensures.barred) in
     let entry = earliest_enters (a c.args.from.cell.0) (a c.args.to.cell.0) c.args.from.interval c.args.to.interval r c.args.entry is unbarred c.requires.until c.requires.lands.1 in
     let states = c.in_ok-add_queued.ensures.states in
     let spot : Spot = record c.args.to { older = states.0 } in

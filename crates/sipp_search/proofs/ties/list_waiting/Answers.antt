@@ -1,8 +1,5 @@
-use Rattle.std.proofs.Common.{arith, sym, ap, ◌∙◌, refl, ◌≡◌, ◌≢◌, ℕ, ◌+◌, ◌≤◌, Some, slice_get, slice_index_or, length}
+use Rattle.std.proofs.Common.{arith, sym, ◌∙◌, ◌≡◌, Some, slice_get, slice_index_or}
 use Rattle.std.proofs.lemmas.Option.{slice_get-get_or}
-use Rattle.sipp_search.specs.declared.states.Spot.{Spot}
-use Rattle.sipp_search.specs.Marks.{queued}
-use Rattle.sipp_search.specs.Ties.{IsWaiting}
 use Rattle.sipp_search.proofs.Nearby.{none_listed, all_listed, one_listed, same_listed}
 use Rattle.sipp_search.proofs.ties.list_waiting.Goals.{in-Some+else-len-eq-SHORT+in_ok-push, in_default}
 use Rattle.sipp_search.proofs.ties.list_waiting.Goals as goal

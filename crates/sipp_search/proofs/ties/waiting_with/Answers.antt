@@ -1,4 +1,4 @@
-use Rattle.std.proofs.Common.{arith, sym, ap, ◌∙◌, ◌≡◌, ◌≢◌, ℕ, ◌+◌, Some}
+use Rattle.std.proofs.Common.{arith, sym, ap, ◌∙◌, ◌≡◌, ◌+◌, Some}
 use Rattle.std.proofs.lemmas.Option.{same_Some}
 use Rattle.sipp_search.specs.declared.states.State.{State}
 use Rattle.sipp_search.specs.Marks.{queued}
