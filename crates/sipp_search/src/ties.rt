@@ -24,7 +24,7 @@ use crate::task::Task;
 use calendars::{CalendarView, crossing};
 use fleet_base::{Cell, Memory, Side};
 use stamped_list::StampedList;
-use static_distance::{Distances, Place, beside, moves_between, neighbour_at, place_of};
+use static_distance::{Distances, Place, beside, cell_beside, moves_between, place_of};
 use std::alloc::Global;
 
 // So many moves back it is asked whether a state is reached, before the rest of its key is settled instead.
@@ -36,7 +36,7 @@ const EASY: u32 = 1000;
 
 // The queued states of the last key are listed where they are at most so many: going through a longer list takes longer than
 // it saves.
-const SHORT: usize = 16;
+const SHORT: usize = 32;
 
 // Where a queued state of the last key is, and since when.
 #[derive(Clone, Copy)]
@@ -461,7 +461,7 @@ fn side_back<V: CalendarView>(
     if entered == 0 {
         return Ok(Told::Never);
     }
-    let Some(cell) = neighbour_at(task.grid, at, place, side) else {
+    let Some(cell) = cell_beside(task.grid, place, side) else {
         return Ok(Told::Never);
     };
     if !task.grid.is_open(cell) {

@@ -166,7 +166,7 @@ ask-returns-in-Never-clause-told g t c =
 pub side_back-returns-in-Never-clause-told : goal.side_back-returns-in-Never-clause-told
 side_back-returns-in-Never-clause-told g t c =
     λ a agrees n u beside time can.
-    (let same : n ≡ c.in-Some.cell = beside_once c.args.task.now.grid.now c.args.side c.args.at n c.in-Some.cell beside c.in-Some.ensures.beside in
+    (let same : n ≡ c.in-Some.cell = beside_once c.args.task.now.grid.now c.args.side c.args.at n c.in-Some.cell beside (c.in-Some.ensures.beside c.args.at (omega (arith, c.requires.cell, c.requires.ready.size_is)) c.requires.place) in
     let before : u ≡ c.args.entered - 1 = omega arith in
     let reached : IsReached c.args.task.now.grid.now c.args.task.now.request a n u = steps_from_walk c.args.task.now.grid.now c.args.task.now.request (traffic_by a) n u can.reachable in
     (rw c.in-Never.is at (c.in_ok-told.ensures.told a agrees))
@@ -175,7 +175,7 @@ side_back-returns-in-Never-clause-told g t c =
 pub side_back-returns-then-not-is_open-clause-told : goal.side_back-returns-then-not-is_open-clause-told
 side_back-returns-then-not-is_open-clause-told g t c =
     λ a agrees n u beside time can.
-    (let same : n ≡ c.in-Some.cell = beside_once c.args.task.now.grid.now c.args.side c.args.at n c.in-Some.cell beside c.in-Some.ensures.beside in
+    (let same : n ≡ c.in-Some.cell = beside_once c.args.task.now.grid.now c.args.side c.args.at n c.in-Some.cell beside (c.in-Some.ensures.beside c.args.at (omega (arith, c.requires.cell, c.requires.ready.size_is)) c.requires.place) in
     let reached : IsReached c.args.task.now.grid.now c.args.task.now.request a n u = steps_from_walk c.args.task.now.grid.now c.args.task.now.request (traffic_by a) n u can.reachable in
     let opened = reached_open c.args.task.now.grid.now c.args.task.now.request a (subst (λ (z : Cell). IsReached c.args.task.now.grid.now c.args.task.now.request a z u) same reached) in
     false≢true (c.if-not-is_open.ensures.1 opened))
@@ -189,7 +189,7 @@ side_back-returns-then-is_barred_from-clause-told g t c =
     λ a agrees n u beside time can.
     (let told = rw c.in-Since.is at (c.in_ok-told.ensures.told a agrees) in
     let barred : is_exchange (a c.in-Since.hop.cell.0) (a c.args.at.0) (c.args.entered - 1) ≡ true = c.if-is_barred_from.ensures.barred a agrees in
-    let same : n ≡ c.in-Some.cell = beside_once c.args.task.now.grid.now c.args.side c.args.at n c.in-Some.cell beside c.in-Some.ensures.beside in
+    let same : n ≡ c.in-Some.cell = beside_once c.args.task.now.grid.now c.args.side c.args.at n c.in-Some.cell beside (c.in-Some.ensures.beside c.args.at (omega (arith, c.requires.cell, c.requires.ready.size_is)) c.requires.place) in
     let before : u ≡ c.args.entered - 1 = omega arith in
     let differ : n ≡ c.args.at → ⊥ = λ e. beside_differs c.args.task.now.grid.now c.args.side c.args.at n beside (sym e) in
     let unbarred : is_exchange (a n.0) (a c.args.at.0) u ≡ false = can.clear.unbarred differ in
@@ -203,7 +203,7 @@ side_back-returns-clause-told g t c =
     λ a agrees.
     (let told = rw c.in-Since.is at (c.in_ok-told.ensures.told a agrees) in
     let unbarred : is_exchange (a c.in-Since.hop.cell.0) (a c.args.at.0) (c.args.entered - 1) ≡ false = c.if-is_barred_from.ensures.barred a agrees in
-    let beside : IsBeside c.args.task.now.grid.now c.args.side c.args.at c.in-Since.hop.cell = subst (λ (z : Cell). IsBeside c.args.task.now.grid.now c.args.side c.args.at z) (sym told.0) c.in-Some.ensures.beside in
+    let beside : IsBeside c.args.task.now.grid.now c.args.side c.args.at c.in-Since.hop.cell = subst (λ (z : Cell). IsBeside c.args.task.now.grid.now c.args.side c.args.at z) (sym told.0) (c.in-Some.ensures.beside c.args.at (omega (arith, c.requires.cell, c.requires.ready.size_is)) c.requires.place) in
     let earliest : IsEarliest c.args.task.now.grid.now (traffic_by a) c.args.task.now.request c.in-Since.hop.cell (c.args.entered - 1) c.in-Since.hop.time =
     subst (λ (z : Cell). IsEarliest c.args.task.now.grid.now (traffic_by a) c.args.task.now.request z (c.args.entered - 1) c.in-Since.hop.time) (sym told.0) told.1 in
     side_found c.args.task.now.grid.now c.args.task.now.request a c.args.at c.in-Since.hop.cell c.args.entered (c.args.entered - 1) c.in-Since.hop.time c.args.side (omega (arith, c.if-entered-eq0.false)) beside earliest
