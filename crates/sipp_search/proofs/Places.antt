@@ -1,11 +1,11 @@
 -- The safe interval that comes after so many records: each free time that does is in it, and none other.
 use Rattle.std.proofs.Common.{arith, refl, inl, inr, get_or}
-use Rattle.std.proofs.lemmas.Bool.{cases_lt}
+use Rattle.std.proofs.lemmas.Bool.{cases_lt, ltb-false}
 use Rattle.std.proofs.lemmas.Option.{slice_get-get_or}
-use Rattle.std.specs.Prelude.{◌≡◌, ℕ, ◌+◌, ◌-◌, ◌<◌, ◌≤◌, false, List, [], ◌∷◌, length}
+use Rattle.std.specs.Prelude.{◌≡◌, ℕ, suc, ◌+◌, ◌-◌, ◌<◌, ◌≤◌, nat_lt, Bool, true, false, List, [], ◌∷◌, length, if◌then◌else◌}
 use Rattle.fleet_base.specs.declared.request.Record.{Record}
 use Rattle.calendars.specs.Places.{place_in}
-use Rattle.calendars.specs.Records.{covers, InOrder}
+use Rattle.calendars.specs.Records.{covers, InOrder, InOrderFrom}
 use Rattle.safe_intervals.specs.declared.interval.Interval.{Interval}
 use Rattle.safe_intervals.specs.Safe.{IsIn, IsGapAt}
 use Rattle.safe_intervals.proofs.Counting.{more_begun}
@@ -14,7 +14,21 @@ use Rattle.safe_intervals.proofs.SafeLemmas.{safe_once}
 use Rattle.sipp_search.specs.Gaps.{BeginsAfter}
 use Rattle.sipp_search.proofs.Counted.{covered_later}
 
+-- records take a time each at least, so no more of them than that have begun
+pub few_begun : (rs : List Record) (low t : ℕ) → InOrderFrom low rs → place_in t rs ≤ (t + 1) - low
+few_begun [] low t order = omega arith
+few_begun (r ∷ rs) low t order = go (few_begun rs (r.to + 1) t order.3) (nat_lt t r.from) refl where
+  go : place_in t rs ≤ (t + 1) - (r.to + 1) → (b : Bool) → nat_lt t r.from ≡ b → (if b then 0 else suc (place_in t rs)) ≤ (t + 1) - low
+  go rest true later = omega arith
+  go rest false begun = omega (arith, order.0, order.1, ltb-false t r.from begun)
+
 module _ (records : List Record) (horizon place : ℕ) (i : Interval) (order : InOrder records) (gap : IsGapAt records horizon place i) where
+  -- no more come before it than times do
+  pub few_before : place ≤ i.from + 1
+  few_before =
+      let here : place_in i.from records ≡ place = gap.place_is i.from (omega arith, gap.safe.some) in
+      omega (arith, few_begun records 0 i.from order)
+
   -- more come before each time after it
   pub more_later : (t : ℕ) → i.to < t → t ≤ horizon → place < place_in t records
   more_later t later within = elim gap.safe.ends [

@@ -44,7 +44,7 @@ fn begin_in<V: CalendarView>(
     arena: &mut Arena,
     interval: Interval,
     left: u32,
-    place: usize,
+    place: u32,
 ) -> Result<(), Memory>
     requires ready { IsReady task.now.grid.now task.now.request task.now.horizon (V.size view.now) }
     requires sound { IsSound task.now.grid.now task.now.request task.now.horizon (V.known view.now) (V.size view.now) arena.old }
@@ -120,6 +120,6 @@ pub fn begin<V: CalendarView>(task: &Task, view: &mut V, arena: &mut Arena) -> R
     if request.depart < interval.from {
         return Ok(());
     }
-    begin_in(task, &*view, arena, interval, left, place)?;
+    begin_in(task, &*view, arena, interval, left, place as u32)?;
     Ok(())
 }

@@ -45,7 +45,7 @@ pub fn place_at(arena: &Arena, cell: Cell, time: u32) -> Option<usize>
 }
 
 // The place of the state of the cell whose interval comes after so many records.
-pub fn known_at(arena: &Arena, cell: Cell, place: usize) -> Option<usize>
+pub fn known_at(arena: &Arena, cell: Cell, place: u32) -> Option<usize>
     requires cell { cell.0 < length arena.now.newest }
     requires chained { AreChained (spots_of arena.now.states.items) arena.now.newest }
     ensures some { IfSome result (λ j. (s : AState) × (slice_get arena.now.states.items j ≡ Some s) × (s.spot.cell ≡ cell) × (s.spot.place ≡ place)) }

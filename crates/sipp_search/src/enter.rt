@@ -58,7 +58,13 @@ fn is_barred(here: &Calendar, there: &Calendar, from: Spot, to: Spot, entry: u32
     if entry <= from.interval.to {
         return false;
     }
-    crossing_at(here, from.place, there, to.place, entry - 1)
+    crossing_at(
+        here,
+        from.place as usize,
+        there,
+        to.place as usize,
+        entry - 1,
+    )
 }
 
 // Whether the mark is that of a final state.
@@ -302,7 +308,7 @@ fn enter_later<V: CalendarView>(
                     cell: to,
                     interval,
                     left,
-                    place,
+                    place: place as u32,
                     older: 0,
                 };
                 enter_at(task, view, arena, here, there, from, spot, entry)?;
@@ -360,7 +366,7 @@ fn enter_fresh<V: CalendarView>(
                     cell: to,
                     interval,
                     left,
-                    place,
+                    place: place as u32,
                     older: 0,
                 };
                 enter_new(task, view, arena, here, there, from, spot, entry)?;
@@ -401,7 +407,7 @@ pub fn enter_first<V: CalendarView>(
         → IsUnderWay task.now.grid.now task.now.request task.now.horizon a arena.new.states.items arena.old.queue.floor x
         × HasLed task.now.grid.now task.now.request task.now.horizon a arena.new.states.items from arrival to) }
 {
-    let first = begun_by(view.calendar(to), from.place, arrival + 1);
+    let first = begun_by(view.calendar(to), from.place as usize, arrival + 1);
     enter_fresh(task, view, arena, from, arrival, to, left, first)?;
     Ok(())
 }
@@ -495,7 +501,7 @@ fn enter_each<V: CalendarView>(
         → IsUnderWay task.now.grid.now task.now.request task.now.horizon a arena.new.states.items arena.old.queue.floor x
         × HasLed task.now.grid.now task.now.request task.now.horizon a arena.new.states.items from arrival to) }
 {
-    let first = begun_by(view.calendar(to), from.place, arrival + 1);
+    let first = begun_by(view.calendar(to), from.place as usize, arrival + 1);
     enter_later(task, view, arena, from, arrival, to, left, first)?;
     Ok(())
 }
@@ -540,6 +546,15 @@ pub fn move_into<V: CalendarView>(
     if from.interval.to <= spot.interval.to {
         return Ok(());
     }
-    enter_later(task, view, arena, from, arrival, to, left, spot.place + 1)?;
+    enter_later(
+        task,
+        view,
+        arena,
+        from,
+        arrival,
+        to,
+        left,
+        spot.place as usize + 1,
+    )?;
     Ok(())
 }

@@ -15,7 +15,7 @@ pub struct Spot {
     pub interval: Interval,
     pub left: u32,
     // How many of the cell's records come before the interval.
-    pub place: usize,
+    pub place: u32,
     // 1 plus the place of the cell's state that was added before this one, or 0.
     pub older: u32,
 }

@@ -553,7 +553,8 @@ pub fn read_ties<V: CalendarView>(
     ensures cells_back { IfOk result (λ o. IfSome o (λ v. (a : Assignment) → Agrees a (V.known view.new) → ReadsBack task.now.grid.now (traffic_by a) task.now.request task.now.request.goal arrival v.items)) }
 {
     forget(task, &*arena, ties)?;
-    let mut cells = Vec::new(alloc);
+    let room = arrival.saturating_sub(task.request.depart) as usize + 1;
+    let mut cells = Vec::with_capacity(alloc, room)?;
     let mut at = task.request.goal;
     let mut time = arrival;
     let place = place_of(task.grid, at);

@@ -1,5 +1,5 @@
 use Rattle.std.proofs.Common.{arith, sym, ◌≡◌, [], ◌≤◌}
-use Rattle.sipp_search.proofs.Places.{until_gap}
+use Rattle.sipp_search.proofs.Places.{few_begun, until_gap}
 use Rattle.sipp_search.proofs.Beginning.{nothing_unseen, idle_way, gap_later}
 use Rattle.sipp_search.proofs.begin.begin.Goals as goal
 
@@ -18,3 +18,8 @@ begin_in-requires-clause-inside g c =
       until_gap c.calendar-calendar.result.now c.args.task.now.horizon c.place_of-place.result c.in-Some-gap_at.interval c.records-in_order.ensures.ordered c.in-Some-gap_at.ensures
           c.args.task.now.request.depart within (sym c.place_of-place.ensures.place),
     )
+
+pub overflow_cast-place : goal.overflow_cast-place
+overflow_cast-place g c =
+    let few = few_begun c.calendar-calendar.result.now 0 c.args.task.now.request.depart c.records-in_order.ensures.ordered in
+    omega (arith, few, c.place_of-place.ensures.place)

@@ -5,7 +5,7 @@ use Rattle.sipp_search.specs.Arena.{IsOfArena}
 use Rattle.sipp_search.specs.Marks.{spots_of}
 use Rattle.sipp_search.specs.Progress.{IsUnderWay}
 use Rattle.sipp_search.proofs.Marking.{improves-trans}
-use Rattle.sipp_search.proofs.Places.{in_gap}
+use Rattle.sipp_search.proofs.Places.{few_before, in_gap}
 use Rattle.sipp_search.proofs.Entering.{between_more, between_none, between_over, past_all, past_last, last_arrival}
 use Rattle.sipp_search.proofs.Growing.{new_there}
 use Rattle.sipp_search.proofs.Fresh.{none_at, before_more}
@@ -35,6 +35,12 @@ enter_new-requires-clause-new g c =
     record { records = c.calendar-there.result.now; known_is = c.calendar-there.ensures; safe = gap.safe; distance = c.requires.distance; place_is = gap.place_is } in
     new_there c.args.task.now.grid.now c.args.task.now.request.goal c.args.task.now.horizon (g.V.CalendarView.known c.args.view.now) c.loop-place.arena.states.items c.loop-place.arena.newest
     c.loop-place.invariant.sound.arranged spot of c.records-records.ensures.ordered None (none_at c.loop-place.arena.states.items c.args.to c.loop-place.place c.loop-place.invariant.fresh)
+
+pub overflow_cast-spot : goal.overflow_cast-spot
+overflow_cast-spot g c =
+    let gap : IsGapAt c.calendar-there.result.now c.args.task.now.horizon c.loop-place.place c.in-Some-gap_since.interval = rw c.records-records.ensures.value at c.in-Some-gap_since.ensures.gap in
+    let few = few_before c.calendar-there.result.now c.args.task.now.horizon c.loop-place.place c.in-Some-gap_since.interval c.records-records.ensures.ordered gap in
+    omega (arith, few, gap.safe.some, gap.safe.within, c.requires.ready.in_range)
 
 pub returns-clause-led : goal.returns-clause-led
 returns-clause-led g c = λ a x agrees source way.

@@ -2,7 +2,7 @@ use Rattle.std.proofs.Common.{arith, subst, sym, ap, refl, ◌∙◌, ◌≡◌,
 use Rattle.safe_intervals.specs.Safe.{IsGapAt, NoneSafeAt}
 use Rattle.sipp_search.specs.Progress.{IsUnderWay}
 use Rattle.sipp_search.proofs.Marking.{improves-trans}
-use Rattle.sipp_search.proofs.Places.{in_gap}
+use Rattle.sipp_search.proofs.Places.{few_before, in_gap}
 use Rattle.sipp_search.proofs.Entering.{between_more, between_none, between_over, past_all, past_last, last_arrival}
 use Rattle.sipp_search.proofs.enter.enter_later.Goals.{in-Some-gap_since+then-entry-interval+in_ok-enter_at, in-Some-gap_since+else-entry-interval, in_default-gap_since}
 use Rattle.sipp_search.proofs.enter.enter_later.Goals as goal
@@ -21,6 +21,12 @@ pub enter_at-requires-clause-to : goal.enter_at-requires-clause-to
 enter_at-requires-clause-to g c =
     let gap : IsGapAt c.calendar-there.result.now c.args.task.now.horizon c.loop-place.place c.in-Some-gap_since.interval = rw c.records-records.ensures.value at c.in-Some-gap_since.ensures.gap in
     record { records = c.calendar-there.result.now; known_is = c.calendar-there.ensures; safe = gap.safe; distance = c.requires.distance; place_is = gap.place_is }
+
+pub overflow_cast-spot : goal.overflow_cast-spot
+overflow_cast-spot g c =
+    let gap : IsGapAt c.calendar-there.result.now c.args.task.now.horizon c.loop-place.place c.in-Some-gap_since.interval = rw c.records-records.ensures.value at c.in-Some-gap_since.ensures.gap in
+    let few = few_before c.calendar-there.result.now c.args.task.now.horizon c.loop-place.place c.in-Some-gap_since.interval c.records-records.ensures.ordered gap in
+    omega (arith, few, gap.safe.some, gap.safe.within, c.requires.ready.in_range)
 
 pub returns-clause-led : goal.returns-clause-led
 returns-clause-led g c = λ a x agrees source way.

@@ -43,7 +43,7 @@ loop-told-init g c =
       loaded = c.in_ok-told.ensures.loaded;
       told = c.in_ok-told.ensures.told;
       earliest = λ a agrees. (c.args.arrival, subst (λ (n : ℕ). IsEarliest c.args.task.now.grid.now (traffic_by a) c.args.task.now.request c.args.task.now.request.goal n n) c.requires.arrival (paused_goal c.args.task.now.grid.now c.args.task.now.request c.args.task.now.horizon (g.V.CalendarView.known c.args.view.now) (g.V.CalendarView.size c.args.view.now) c.args.arena.now c.requires.ready.bound c.requires.paused a (agrees_before a (g.V.CalendarView.known c.args.view.now) (g.V.CalendarView.known c.step_back.new.view) c.in_ok-told.ensures.kept agrees)));
-      reads = λ a agrees. reads_nothing c.args.task.now.grid.now c.args.task.now.request a c.args.arrival c.new-cells.result.items c.new-cells.ensures.items;
+      reads = λ a agrees. reads_nothing c.args.task.now.grid.now c.args.task.now.request a c.args.arrival c.in_ok-cells.cells.items c.in_ok-cells.ensures.items;
     }
 
 pub overflow_sub-time : goal.overflow_sub-time
