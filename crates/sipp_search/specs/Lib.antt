@@ -10,3 +10,4 @@ pub mod Running
 pub mod Back
 pub mod Tabled
 pub mod Ties
+pub mod Around

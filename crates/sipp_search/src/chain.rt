@@ -27,6 +27,7 @@ fn holds(interval: Interval, time: u32) -> bool
 }
 
 // The place of the state of the cell whose interval holds the time.
+#[inline(always)]
 pub fn place_at(arena: &Arena, cell: Cell, time: u32) -> Option<usize>
     requires cell { cell.0 < length arena.now.newest }
     requires chained { AreChained (spots_of arena.now.states.items) arena.now.newest }

@@ -6,6 +6,7 @@
 #![tactic(auto)]
 
 mod answer;
+mod around;
 mod back;
 mod begin;
 mod chain;

@@ -13,9 +13,11 @@ ghost use Rattle.static_distance.specs.Levels.{IsPlaceOf};
 ghost use Rattle.fleet_base.specs.Terrain.{Terrain};
 ghost use Rattle.fleet_base.specs.declared.grid.Cell.{Cell as ACell};
 ghost use Rattle.fleet_base.specs.declared.request.Request.{Request};
+ghost use Rattle.sipp_search.specs.Around.{IsNeighbour};
 ghost use Rattle.sipp_search.specs.Running.{IsReady, IsSound, Serves, KeepsKnown};
 ghost use Rattle.sipp_search.specs.Ties.{IsPaused, HaveRoom, AreTies, TellsArrival, TellsSide, TellsStep, IsUnseenAt, LoadedWhereSince, EarlierThan, IsFirstArrival, IsNear, HasNear, AreInGrid, IsWaiting, AreWaiting, ListsWaiting, AreQueued};
 
+use crate::around::{Neighbour, around};
 use crate::back::{Hop, push_hop};
 use crate::chain::{place_at, way_left};
 use crate::expand::side_at;
@@ -24,7 +26,7 @@ use crate::task::Task;
 use calendars::{CalendarView, crossing};
 use fleet_base::{Cell, Memory, Side};
 use stamped_list::StampedList;
-use static_distance::{Distances, Place, beside, cell_beside, moves_between, place_of};
+use static_distance::{Distances, Place, moves_between, place_of};
 use std::alloc::Global;
 
 // So many moves back it is asked whether a state is reached, before the rest of its key is settled instead.
@@ -430,7 +432,7 @@ fn side_back<V: CalendarView>(
     arena: &mut Arena,
     ties: &mut Ties,
     at: Cell,
-    place: Place,
+    neighbour: Option<Neighbour>,
     entered: u32,
     side: Side,
     depth: u32,
@@ -440,7 +442,7 @@ fn side_back<V: CalendarView>(
     requires ties { AreTies task.now.grid.now task.now.request (V.known view.old) ties.old }
     requires waiting { ListsWaiting task.now.grid.now arena.old.states.items arena.old.queue.floor ties.old }
     requires known { IsSome (V.known view.old at.0) }
-    requires place { IsPlaceOf task.now.grid.now at place }
+    requires neighbour { IsNeighbour task.now.grid.now side at neighbour }
     requires cell { at.0 < V.size view.old }
     requires time { entered ≤ task.now.horizon }
     requires free { (a : Assignment) → Agrees a (V.known view.old) → covers (a at.0) entered ≡ false }
@@ -461,14 +463,22 @@ fn side_back<V: CalendarView>(
     if entered == 0 {
         return Ok(Told::Never);
     }
-    let Some(cell) = cell_beside(task.grid, place, side) else {
+    let Some(next) = neighbour else {
         return Ok(Told::Never);
     };
-    if !task.grid.is_open(cell) {
+    if !task.grid.is_open(next.cell) {
         return Ok(Told::Never);
     }
-    let from = beside(place, side);
-    let told = arrival_at(task, view, arena, ties, cell, from, entered - 1, depth)?;
+    let told = arrival_at(
+        task,
+        view,
+        arena,
+        ties,
+        next.cell,
+        next.place,
+        entered - 1,
+        depth,
+    )?;
     let hop = match told {
         Told::Since(hop) => hop,
         Told::Never => return Ok(Told::Never),
@@ -515,9 +525,11 @@ fn step_back<V: CalendarView>(
     ensures early { IfOk result (EarlierThan entered) }
     ensures told { IfOk result (λ told. (a : Assignment) → Agrees a (V.known view.new) → TellsStep task.now.grid.now task.now.request a at entered told) }
 {
+    let all = around(task.grid, at, place);
     for rank in 0..4 {
         let side = side_at(rank);
-        let told = side_back(task, view, arena, ties, at, place, entered, side, depth)?;
+        let next = all[rank as usize];
+        let told = side_back(task, view, arena, ties, at, next, entered, side, depth)?;
         match told {
             Told::Since(hop) => return Ok(Told::Since(hop)),
             Told::Never => {}

@@ -1,4 +1,5 @@
-use Rattle.std.proofs.Common.{arith, subst, sym, ◌∙◌, refl, inl, inr, ◌≡◌, ◌-◌, ℕ, true, false}
+use Rattle.std.proofs.Common.{arith, subst, sym, ◌∙◌, refl, inl, inr, ◌≡◌, ◌-◌, ℕ, true, false, None, get_or}
+use Rattle.std.proofs.lemmas.Option.{get_or_from_slice_get}
 use Rattle.std.proofs.lemmas.Bool.{cases_lt, false≢true}
 use Rattle.fleet_base.specs.declared.grid.Cell.{Cell}
 use Rattle.fleet_base.specs.declared.grid.Side.{Side}
@@ -166,16 +167,16 @@ ask-returns-in-Never-clause-told g t c =
 pub side_back-returns-in-Never-clause-told : goal.side_back-returns-in-Never-clause-told
 side_back-returns-in-Never-clause-told g t c =
     λ a agrees n u beside time can.
-    (let same : n ≡ c.in-Some.cell = beside_once c.args.task.now.grid.now c.args.side c.args.at n c.in-Some.cell beside (c.in-Some.ensures.beside c.args.at (omega (arith, c.requires.cell, c.requires.ready.size_is)) c.requires.place) in
+    (let same : n ≡ c.in-Some.next.cell = beside_once c.args.task.now.grid.now c.args.side c.args.at n c.in-Some.next.cell beside (rw c.in-Some.is at c.requires.neighbour).0 in
     let before : u ≡ c.args.entered - 1 = omega arith in
     let reached : IsReached c.args.task.now.grid.now c.args.task.now.request a n u = steps_from_walk c.args.task.now.grid.now c.args.task.now.request (traffic_by a) n u can.reachable in
     (rw c.in-Never.is at (c.in_ok-told.ensures.told a agrees))
-    (subst (λ (m : ℕ). IsReached c.args.task.now.grid.now c.args.task.now.request a c.in-Some.cell m) before (subst (λ (z : Cell). IsReached c.args.task.now.grid.now c.args.task.now.request a z u) same reached)))
+    (subst (λ (m : ℕ). IsReached c.args.task.now.grid.now c.args.task.now.request a c.in-Some.next.cell m) before (subst (λ (z : Cell). IsReached c.args.task.now.grid.now c.args.task.now.request a z u) same reached)))
 
 pub side_back-returns-then-not-is_open-clause-told : goal.side_back-returns-then-not-is_open-clause-told
 side_back-returns-then-not-is_open-clause-told g t c =
     λ a agrees n u beside time can.
-    (let same : n ≡ c.in-Some.cell = beside_once c.args.task.now.grid.now c.args.side c.args.at n c.in-Some.cell beside (c.in-Some.ensures.beside c.args.at (omega (arith, c.requires.cell, c.requires.ready.size_is)) c.requires.place) in
+    (let same : n ≡ c.in-Some.next.cell = beside_once c.args.task.now.grid.now c.args.side c.args.at n c.in-Some.next.cell beside (rw c.in-Some.is at c.requires.neighbour).0 in
     let reached : IsReached c.args.task.now.grid.now c.args.task.now.request a n u = steps_from_walk c.args.task.now.grid.now c.args.task.now.request (traffic_by a) n u can.reachable in
     let opened = reached_open c.args.task.now.grid.now c.args.task.now.request a (subst (λ (z : Cell). IsReached c.args.task.now.grid.now c.args.task.now.request a z u) same reached) in
     false≢true (c.if-not-is_open.ensures.1 opened))
@@ -189,7 +190,7 @@ side_back-returns-then-is_barred_from-clause-told g t c =
     λ a agrees n u beside time can.
     (let told = rw c.in-Since.is at (c.in_ok-told.ensures.told a agrees) in
     let barred : is_exchange (a c.in-Since.hop.cell.0) (a c.args.at.0) (c.args.entered - 1) ≡ true = c.if-is_barred_from.ensures.barred a agrees in
-    let same : n ≡ c.in-Some.cell = beside_once c.args.task.now.grid.now c.args.side c.args.at n c.in-Some.cell beside (c.in-Some.ensures.beside c.args.at (omega (arith, c.requires.cell, c.requires.ready.size_is)) c.requires.place) in
+    let same : n ≡ c.in-Some.next.cell = beside_once c.args.task.now.grid.now c.args.side c.args.at n c.in-Some.next.cell beside (rw c.in-Some.is at c.requires.neighbour).0 in
     let before : u ≡ c.args.entered - 1 = omega arith in
     let differ : n ≡ c.args.at → ⊥ = λ e. beside_differs c.args.task.now.grid.now c.args.side c.args.at n beside (sym e) in
     let unbarred : is_exchange (a n.0) (a c.args.at.0) u ≡ false = can.clear.unbarred differ in
@@ -203,7 +204,7 @@ side_back-returns-clause-told g t c =
     λ a agrees.
     (let told = rw c.in-Since.is at (c.in_ok-told.ensures.told a agrees) in
     let unbarred : is_exchange (a c.in-Since.hop.cell.0) (a c.args.at.0) (c.args.entered - 1) ≡ false = c.if-is_barred_from.ensures.barred a agrees in
-    let beside : IsBeside c.args.task.now.grid.now c.args.side c.args.at c.in-Since.hop.cell = subst (λ (z : Cell). IsBeside c.args.task.now.grid.now c.args.side c.args.at z) (sym told.0) (c.in-Some.ensures.beside c.args.at (omega (arith, c.requires.cell, c.requires.ready.size_is)) c.requires.place) in
+    let beside : IsBeside c.args.task.now.grid.now c.args.side c.args.at c.in-Since.hop.cell = subst (λ (z : Cell). IsBeside c.args.task.now.grid.now c.args.side c.args.at z) (sym told.0) (rw c.in-Some.is at c.requires.neighbour).0 in
     let earliest : IsEarliest c.args.task.now.grid.now (traffic_by a) c.args.task.now.request c.in-Since.hop.cell (c.args.entered - 1) c.in-Since.hop.time =
     subst (λ (z : Cell). IsEarliest c.args.task.now.grid.now (traffic_by a) c.args.task.now.request z (c.args.entered - 1) c.in-Since.hop.time) (sym told.0) told.1 in
     side_found c.args.task.now.grid.now c.args.task.now.request a c.args.at c.in-Since.hop.cell c.args.entered (c.args.entered - 1) c.in-Since.hop.time c.args.side (omega (arith, c.if-entered-eq0.false)) beside earliest
@@ -247,3 +248,38 @@ step_back-loop-rank-preserved g t c =
 pub step_back-returns-clause-told : goal.step_back-returns-clause-told
 step_back-returns-clause-told g t c =
     λ a agrees side n u beside time. c.loop-rank.invariant.none a agrees side (omega (arith, rank_low side, c.loop-rank-test.false)) n u beside time
+
+pub step_back-side_back-requires : goal.step_back-side_back-requires
+step_back-side_back-requires g t c κs within = (
+  omega arith,
+  (
+    within,
+    (
+      ready_kept c.args.task.now.grid.now c.args.task.now.request c.args.task.now.horizon (g.V.CalendarView.size c.args.view.now) (g.V.CalendarView.size c.loop-rank.view) c.loop-rank.invariant.cells c.requires.ready,
+      (
+        c.loop-rank.invariant.paused,
+        (
+          c.loop-rank.invariant.ties,
+          (
+            c.loop-rank.invariant.waiting,
+            (
+              some_kept (g.V.CalendarView.known c.args.view.now) (g.V.CalendarView.known c.loop-rank.view) c.args.at.0 c.loop-rank.invariant.kept c.requires.known,
+              (
+                (let has = c.around-all.ensures c.side_at-side.result in
+                    let there : get_or c.around-all.result c.loop-rank.rank None ≡ has.0 = get_or_from_slice_get c.around-all.result c.loop-rank.rank has.0 None (rw (sym c.side_at-side.ensures) has.1) in
+                    rw there has.2),
+                (
+                  omega (arith, c.requires.cell, c.loop-rank.invariant.cells),
+                  (
+                    c.requires.time,
+                    (λ a agrees. c.requires.free a (agrees_before a (g.V.CalendarView.known c.args.view.now) (g.V.CalendarView.known c.loop-rank.view) c.loop-rank.invariant.kept agrees)),
+                  ),
+                ),
+              ),
+            ),
+          ),
+        ),
+      ),
+    ),
+  ),
+)
