@@ -3,9 +3,16 @@ ghost use Rattle.journal_lines.specs.Moves.{letter_of, moves_of};
 
 use fleet_base::{Cell, Grid, Memory};
 
+// The letters of the moves, and of waiting.
+const UP: u8 = b'U';
+
 const LEFT: u8 = b'L';
 
 const RIGHT: u8 = b'R';
+
+const DOWN: u8 = b'D';
+
+const WAIT: u8 = b'W';
 
 // The letter of a step. Cells are numbered row by row.
 #[tactic(auto, unfolding(crate::specs::Moves::letter_of))]
@@ -16,18 +23,19 @@ fn letter_of(width: u32, from: Cell, to: Cell) -> u8
     let (from_x, from_y) = (u64::from(from.0 % width), u64::from(from.0 / width));
     let (to_x, to_y) = (u64::from(to.0 % width), u64::from(to.0 / width));
     if to_y + 1 == from_y {
-        b'U'
+        UP
     } else if to_x + 1 == from_x {
         LEFT
     } else if from_x + 1 == to_x {
         RIGHT
     } else if from_y + 1 == to_y {
-        b'D'
+        DOWN
     } else {
-        b'W'
+        WAIT
     }
 }
 
+// The letter of a step, and the column of the cell that it leads to.
 #[derive(Clone, Copy)]
 struct Step {
     letter: u8,
@@ -46,17 +54,14 @@ fn step_of(width: u32, from: Cell, column: u32, to: Cell) -> Step
     let (before, after, row) = (u64::from(from.0), u64::from(to.0), u64::from(width));
     if after == before {
         Step {
-            letter: b'W',
+            letter: WAIT,
             column,
         }
     } else if after + row == before {
-        Step {
-            letter: b'U',
-            column,
-        }
+        Step { letter: UP, column }
     } else if before + row == after {
         Step {
-            letter: b'D',
+            letter: DOWN,
             column,
         }
     } else if after + 1 == before && column > 0 {
