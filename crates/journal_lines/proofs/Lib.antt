@@ -1,5 +1,6 @@
 mod LineKeys
 pub mod Numbering
 mod PrintLemmas
+mod Steps
 mod TextLemmas
 mod TestLemmas
