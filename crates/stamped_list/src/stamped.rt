@@ -1,4 +1,4 @@
-ghost use Rattle.std.specs.Prelude.{◌≡◌, ◌<◌, ℕ, List, Some, length, map, slice_get, slice_set, replicate, IfOk};
+ghost use Rattle.std.specs.Prelude.{◌≡◌, ◌<◌, ◌≤◌, ◌+◌, ℕ, List, Some, length, map, slice_get, slice_set, replicate, IfOk};
 ghost use Rattle.stamped_list.specs.Stamps.{number_above, IsTop};
 
 use std::alloc::{AllocError, Global};
@@ -51,34 +51,61 @@ impl StampedList {
     }
 
     /// Writes the number at a place. It takes the same time for a list of any length, but the whole list is written over
-    /// each time that the greatest numbers between clearings have added up to 2 ^ 32.
+    /// each time that clearings, each of at most twice the greatest number so far, have added up to 2 ^ 32.
     #[inline(always)]
     pub fn set(&mut self, place: usize, value: u32)
         requires { place < length self.old }
         ensures { self.new ≡ slice_set self.old place value }
     {
-        if value > u32::MAX - self.base {
-            // Their sum has no room. The base goes back to 0, and each entry to its number.
-            subtract_from_all(self.entries.as_mut_slice(), self.base);
-            self.top -= self.base;
-            self.base = 0;
+        if value > self.top - self.base {
+            let room = room_for(self.entries.as_mut_slice(), self.base, self.top, value);
+            self.base = room.base;
+            self.top = room.top;
         }
-        let entry = self.base + value;
-        self.entries[place] = entry;
-        self.top = self.top.max(entry);
+        self.entries[place] = self.base + value;
     }
 
     /// All numbers are 0. It takes the same time for a list of any length.
     pub fn clear(&mut self)
         ensures { self.new ≡ replicate (length self.old) 0 }
     {
+        // The numbers to come are likely to be no greater.
+        let room = self.top - self.base;
         self.base = self.top;
+        self.top = self.top.saturating_add(room);
+    }
+}
+
+// A base, and a top that leaves room for a number above it.
+#[derive(Clone, Copy)]
+struct Room {
+    base: u32,
+    top: u32,
+}
+
+// Room for a number that has none, and for one twice as great where that is possible: then the numbers that follow seldom need
+// more. Where their sum with the base is too great, the base goes back to 0, and each entry to its number.
+#[cold]
+#[inline(never)]
+fn room_for(entries: &mut [u32], base: u32, top: u32, value: u32) -> Room
+    requires top { IsTop top base entries.old }
+    requires none { top < base + value }
+    ensures same { map (number_above result.base) entries.new ≡ map (number_above base) entries.old }
+    ensures top { IsTop result.top result.base entries.new }
+    ensures room { result.base + value ≤ result.top }
+{
+    let room = value.saturating_mul(2);
+    if value > u32::MAX - base {
+        subtract_from_all(entries, base);
+        return Room { base: 0, top: room };
+    }
+    Room {
+        base,
+        top: base.saturating_add(room),
     }
 }
 
 // Makes each entry the number that it is above the base.
-#[cold]
-#[inline(never)]
 fn subtract_from_all(entries: &mut [u32], base: u32)
     ensures { entries.new ≡ map (number_above base) entries.old }
 {
