@@ -1,5 +1,5 @@
 -- How far cells beside each other are from a place.
-use Rattle.std.proofs.Common.{length, ◌≡◌, ◌≢◌, ℕ, zero, suc, ◌+◌, ◌-◌, ◌*◌, ◌/◌, ◌%◌, ◌<◌, ◌≤◌, refl, ap, subst, ◌∙◌, arith}
+use Rattle.std.proofs.Common.{length, ◌≡◌, ℕ, ◌+◌, ◌/◌, ◌%◌, ◌<◌, ◌≤◌, ap, ◌∙◌, arith}
 use Rattle.std.proofs.lemmas.Nat.{mod-mul-add, div-mul-add}
 use Rattle.fleet_base.specs.declared.grid.Cell.{Cell}
 use Rattle.fleet_base.specs.declared.grid.Side.{Side}
@@ -8,7 +8,7 @@ use Rattle.fleet_base.specs.Terrain.{Terrain, IsTerrain, IsAt, IsBeside}
 use Rattle.fleet_base.proofs.GridLemmas.{placed}
 use Rattle.static_distance.specs.declared.place.Place.{Place}
 use Rattle.static_distance.specs.Distance.{IsWay, there, move}
-use Rattle.static_distance.specs.Levels.{IsPlaceOf, gap, apart, moved}
+use Rattle.static_distance.specs.Levels.{IsPlaceOf, gap, apart}
 use Rattle.static_distance.proofs.Ways.{beside_back}
 
 pub column_at : (g : Terrain) (c : Cell) (x y : ℕ) → IsAt g c x y → c.0 % g.width ≡ x
@@ -89,49 +89,6 @@ place_right g place c n of (x, y, at, to) =
 pub place_down : (g : Terrain) (place : Place) (c n : Cell) → IsPlaceOf g c place → IsBeside g Down c n → (place.column ≡ n.0 % g.width) × (place.row + 1 ≡ n.0 / g.width)
 place_down g place c n of (x, y, at, to) =
     (omega (arith, of.0, column_at g c x y at, column_at g n x (y + 1) to), omega (arith, of.1, row_at g c x y at, row_at g n x (y + 1) to))
-
--- the cell beside one stands a step from its place
-pub moved_there : (g : Terrain) (c n : Cell) (place : Place) (side : Side) → IsPlaceOf g c place → IsBeside g side c n → IsPlaceOf g n (moved place side)
-moved_there g c n place Up of on_side = let at = place_up g place c n of on_side in (omega (arith, at.0), omega (arith, at.1))
-moved_there g c n place Left of on_side = let at = place_left g place c n of on_side in (omega (arith, at.0), omega (arith, at.1))
-moved_there g c n place Right of on_side = let at = place_right g place c n of on_side in (omega (arith, at.0), omega (arith, at.1))
-moved_there g c n place Down of on_side = let at = place_down g place c n of on_side in (omega (arith, at.0), omega (arith, at.1))
-
--- a place is its column and its row
-pub of_parts : (p q : Place) → p.column ≡ q.column → p.row ≡ q.row → p ≡ q
-of_parts p q column row = ap (λ (n : ℕ). record { column = n; row = p.row }) column ∙ ap (λ (n : ℕ). record { column = q.column; row = n }) row
-
--- a step adds one at most
-pub moved_low : (p : Place) (side : Side) → ((moved p side).column ≤ p.column + 1) × ((moved p side).row ≤ p.row + 1)
-moved_low p Up = (omega arith, omega arith)
-moved_low p Left = (omega arith, omega arith)
-moved_low p Right = (omega arith, omega arith)
-moved_low p Down = (omega arith, omega arith)
-
-positive : (n : ℕ) → n - 1 ≢ n → 0 < n
-positive zero differ = absurd (differ refl)
-positive (suc n) differ = omega arith
-
--- where a step leads to another place of the grid, the cell there is beside the first
-pub beside_moved : (g : Terrain) (c : Cell) (place : Place) (side : Side) → IsAt g c place.column place.row → moved place side ≢ place
-    → (moved place side).column < g.width → (moved place side).row < g.height → IsBeside g side c (record { 0 = (moved place side).row * g.width + (moved place side).column })
-beside_moved g c place Up at differ wide high =
-    let more : 0 < place.row = positive place.row (λ e. differ (of_parts (moved place Up) place refl e)) in
-    let back : place.row ≡ place.row - 1 + 1 = omega arith in
-    (place.column, place.row - 1, subst (λ (n : ℕ). IsAt g c place.column n) back at, (at.0, high, refl))
-beside_moved g c place Left at differ wide high =
-    let more : 0 < place.column = positive place.column (λ e. differ (of_parts (moved place Left) place e refl)) in
-    let back : place.column ≡ place.column - 1 + 1 = omega arith in
-    (place.column - 1, place.row, subst (λ (n : ℕ). IsAt g c n place.row) back at, (wide, at.1, refl))
-beside_moved g c place Right at differ wide high = (place.column, place.row, at, (wide, at.1, refl))
-beside_moved g c place Down at differ wide high = (place.column, place.row, at, (at.0, high, refl))
-
--- a cell beside the one of a place is another place of the grid
-pub moved_away : (g : Terrain) (c d : Cell) (place : Place) (side : Side) → IsPlaceOf g c place → IsBeside g side c d → moved place side ≢ place
-moved_away g c d place Up of on_side = λ e. let at = place_up g place c d of on_side in omega (arith, at.1, ap (λ (p : Place). p.row) e)
-moved_away g c d place Left of on_side = λ e. let at = place_left g place c d of on_side in omega (arith, at.0, ap (λ (p : Place). p.column) e)
-moved_away g c d place Right of on_side = λ e. omega (arith, ap (λ (p : Place). p.column) e)
-moved_away g c d place Down of on_side = λ e. omega (arith, ap (λ (p : Place). p.row) e)
 
 -- a move changes the distance to a place by one at most
 pub low_apart : (g : Terrain) (toward : Place) (side : Side) (c n : Cell) → IsBeside g side c n → apart g toward n ≤ apart g toward c + 1

@@ -1,21 +1,12 @@
 -- Places of cells, how far they are apart, and the marks of cells that are counted.
 use Rattle.std.specs.Prelude.{◌≡◌, ℕ, zero, suc, ◌+◌, ◌-◌, ◌/◌, ◌%◌, List, [], ◌∷◌, Some, slice_get}
 use Rattle.fleet_base.specs.declared.grid.Cell.{Cell}
-use Rattle.fleet_base.specs.declared.grid.Side.{Side}
-use Rattle.fleet_base.specs.declared.grid.Side.TheVariants.{Up, Left, Right, Down}
 use Rattle.fleet_base.specs.Terrain.{Terrain}
 use Rattle.static_distance.specs.declared.place.Place.{Place}
 
 -- the column and the row of the cell
 abbrev pub IsPlaceOf : Terrain → Cell → Place → Type 0
 IsPlaceOf g c p = (p.column ≡ c.0 % g.width) × (p.row ≡ c.0 / g.width)
-
--- the place one step to that side; a column or a row of 0 stays
-abbrev pub moved : Place → Side → Place
-moved p Up = record p { row = p.row - 1 }
-moved p Left = record p { column = p.column - 1 }
-moved p Right = record p { column = p.column + 1 }
-moved p Down = record p { row = p.row + 1 }
 
 -- how far two numbers are apart
 abbrev pub gap : ℕ → ℕ → ℕ

@@ -15,4 +15,4 @@ mod tests;
 mod waiting;
 
 pub use distances::Distances;
-pub use place::{Place, beside, cell_beside, moves_between, neighbour_at, place_of};
+pub use place::{Place, beside, moves_between, neighbour_at, place_of};

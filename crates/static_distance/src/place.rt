@@ -1,7 +1,7 @@
 ghost use Rattle.std.specs.Prelude.{◌≡◌, ◌<◌, ◌^◌, length, IfSome, IfNone};
 ghost use Rattle.fleet_base.specs.Terrain.{Terrain, IsBeside};
 ghost use Rattle.fleet_base.specs.declared.grid.Cell.{Cell as ACell};
-ghost use Rattle.static_distance.specs.Levels.{IsPlaceOf, between, moved};
+ghost use Rattle.static_distance.specs.Levels.{IsPlaceOf, between};
 
 use fleet_base::{Cell, Grid, Side};
 
@@ -55,10 +55,10 @@ pub fn neighbour_at(grid: &Grid, cell: Cell, place: Place, side: Side) -> Option
     }
 }
 
-// The place one step to that side. A column or a row of 0 stays.
+/// The place on that side of a cell's place, where a cell is there. It needs no grid, and divides nothing.
 #[inline(always)]
-fn one_step(place: Place, side: Side) -> Place
-    ensures { (moved place side).column < 2 ^ 32 → (moved place side).row < 2 ^ 32 → result ≡ moved place side }
+pub fn beside(place: Place, side: Side) -> Place
+    ensures { (g : Terrain) (c n : ACell) → n.0 < 2 ^ 32 → IsPlaceOf g c place → IsBeside g side c n → IsPlaceOf g n result }
 {
     // Without branches: a walk turns too often for them to be foreseen.
     Place {
@@ -71,29 +71,4 @@ fn one_step(place: Place, side: Side) -> Place
             .saturating_sub(u32::from(side == Side::Up))
             .saturating_add(u32::from(side == Side::Down)),
     }
-}
-
-/// The place on that side of a cell's place, where a cell is there. It needs no grid, and divides nothing.
-#[inline(always)]
-pub fn beside(place: Place, side: Side) -> Place
-    ensures { (g : Terrain) (c n : ACell) → n.0 < 2 ^ 32 → IsPlaceOf g c place → IsBeside g side c n → IsPlaceOf g n result }
-{
-    one_step(place, side)
-}
-
-/// What `neighbour_at` gives for the cell at that place. That one is for a side that is known where it is called; this one has no
-/// branch for each side.
-#[inline(always)]
-pub fn cell_beside(grid: &Grid, place: Place, side: Side) -> Option<Cell>
-    requires place { (c : ACell) × (c.0 < length grid.now.cells) × IsPlaceOf grid.now c place }
-    ensures beside { IfSome result (λ d. (c : ACell) → c.0 < length grid.now.cells → IsPlaceOf grid.now c place → IsBeside grid.now side c d) }
-    ensures inside { IfSome result (λ d. d.0 < length grid.now.cells) }
-    ensures none { IfNone result ((c d : ACell) → c.0 < length grid.now.cells → IsPlaceOf grid.now c place → ¬ (IsBeside grid.now side c d)) }
-{
-    let _limits = grid.cells();
-    let next = one_step(place, side);
-    if next == place || next.column >= grid.width() || next.row >= grid.height() {
-        return None;
-    }
-    Some(Cell(next.row * grid.width() + next.column))
 }

@@ -118,30 +118,6 @@ fn tells_a_cell_beside(rt: HostRuntime) {
     assert_eq!(rt; moves, Some(5));
 }
 
-// The cells on the four sides of a cell, by its place alone.
-fn around(grid: &Grid, cell: u32) -> [Option<Cell>; 4]
-    requires { cell < length grid.now.cells }
-{
-    let place = place_of(grid, Cell(cell));
-    [
-        cell_beside(grid, place, Side::Up),
-        cell_beside(grid, place, Side::Left),
-        cell_beside(grid, place, Side::Right),
-        cell_beside(grid, place, Side::Down),
-    ]
-}
-
-#[test]
-fn cells_on_all_sides(rt: HostRuntime) {
-    let grid = shut_in(rt.alloc()).expect(&rt, "memory");
-    let middle = around(&grid, 5);
-    assert!(rt; middle == [Some(Cell(1)), Some(Cell(4)), Some(Cell(6)), Some(Cell(9))]);
-    let first = around(&grid, 0);
-    assert!(rt; first == [None, None, Some(Cell(1)), Some(Cell(4))]);
-    let last = around(&grid, 11);
-    assert!(rt; last == [Some(Cell(7)), Some(Cell(10)), None, None]);
-}
-
 // Whether along a path from a cell the distances to a goal are the same told for each cell beside the one before and told alone.
 // They are counted toward a third cell for the first.
 fn are_same_along(
