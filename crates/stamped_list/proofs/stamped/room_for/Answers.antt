@@ -1,4 +1,4 @@
-use Rattle.std.proofs.Common.{ℕ, ◌+◌, ◌-◌, ◌≤◌, map, arith}
+use Rattle.std.proofs.Common.{ℕ, ◌-◌, ◌≤◌, map, arith}
 use Rattle.std.proofs.lemmas.List.Elements.{All-weaker}
 use Rattle.stamped_list.specs.Stamps.{number_above}
 use Rattle.stamped_list.proofs.StampLemmas.{top_comes_down}
