@@ -361,18 +361,19 @@ fn ask<V: CalendarView>(
     ensures early { IfOk result (EarlierThan (time + 1)) }
     ensures told { IfOk result (λ told. (a : Assignment) → Agrees a (V.known view.new) → TellsArrival task.now.grid.now task.now.request a cell time told) }
 {
+    // On a large map a look at what was told costs more than these two tests, which look at no cell.
+    if is_far_apart(task, &*ties, place, time) {
+        return Ok(Told::Never);
+    }
+    if ties.few && !is_near_waiting(task, &*ties, place, time) {
+        return Ok(Told::Never);
+    }
     let told = ties.asked.get(cell.0 as usize);
     if told == 2 * time + 1 {
         return Ok(Told::Never);
     }
     if told == 2 * time + 2 {
         return Ok(Told::Since(Hop { cell, time }));
-    }
-    if is_far_apart(task, &*ties, place, time) {
-        return Ok(Told::Never);
-    }
-    if ties.few && !is_near_waiting(task, &*ties, place, time) {
-        return Ok(Told::Never);
     }
     let taken = is_taken(task, view, &*arena, &*ties, cell, time)?;
     if taken {
