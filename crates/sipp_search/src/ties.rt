@@ -32,9 +32,14 @@ use std::alloc::Global;
 // So many moves back it is asked whether a state is reached, before the rest of its key is settled instead.
 const DEPTH: u32 = 1000;
 
-// So many states are looked into that might be reached if all cells were open, before moves from the start are counted:
-// that many searches never come to.
+// So many states are looked into that might be reached if all cells were open, before moves from the start are counted: on a
+// small map, where a look costs little and few searches come to that, and on one of more cells than `SMALL`, where each look
+// waits for lists that the cache doesn't hold.
 const EASY: u32 = 1000;
+
+const EASY_ON_LARGE: u32 = 100;
+
+const SMALL: usize = 32768;
 
 // The queued states of the last key are listed where they are at most so many: going through a longer list takes longer than
 // it saves.
@@ -194,6 +199,15 @@ fn is_near_waiting(task: &Task, ties: &Ties, place: Place, time: u32) -> bool
     false
 }
 
+// How many states are looked into before moves from the start are counted.
+fn easy_looks(task: &Task) -> u32 {
+    if task.grid.cells().len() > SMALL {
+        EASY_ON_LARGE
+    } else {
+        EASY
+    }
+}
+
 // The same over the cells that are open. Moves are counted once many cells were looked into.
 fn is_too_far(task: &Task, ties: &mut Ties, cell: Cell, time: u32) -> Result<bool, Memory>
     requires cell { cell.0 < length task.now.grid.now.cells }
@@ -209,7 +223,7 @@ fn is_too_far(task: &Task, ties: &mut Ties, cell: Cell, time: u32) -> Result<boo
     let Some(since) = time.checked_sub(task.request.depart) else {
         return Ok(true);
     };
-    if ties.looked < EASY {
+    if ties.looked < easy_looks(task) {
         ties.looked += 1;
         return Ok(false);
     }
