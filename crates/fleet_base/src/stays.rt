@@ -22,7 +22,8 @@ fn end_of(walk: &Walk) -> u32
 pub fn walk_records(alloc: Global, walk: &Walk, id: RouteId) -> Result<Vec<Stay>, Memory>
     ensures { IfOk result (λ stays. AreTheStays walk.now id stays.items) }
 {
-    let mut stays = Vec::new(alloc);
+    let room = (walk.arrival() - walk.depart()) as usize + 1;
+    let mut stays = Vec::with_capacity(alloc, room)?;
     let mut from = walk.depart();
     let mut cell = walk.cell_at(from);
     for time in from + 1..walk.arrival() + 1 {

@@ -100,16 +100,6 @@ pub fn begin<V: CalendarView>(task: &Task, view: &mut V, arena: &mut Arena) -> R
     ensures way { OnOk result ((a : Assignment) (x : ℕ) → Agrees a (V.known view.new) → IsUnderWay task.now.grid.now task.now.request task.now.horizon a arena.new.states.items 0 x) }
 {
     let request = task.request;
-    let at = place_of(task.grid, request.start);
-    let Some(left) = way_left(task, &*view, arena, request.start, at)? else {
-        return Ok(());
-    };
-    let Some(room) = task.horizon.checked_sub(request.depart) else {
-        return Ok(());
-    };
-    if left > room {
-        return Ok(());
-    }
     view.load(request.start)?;
     let calendar = view.calendar(request.start);
     let _in_order = calendar.records();
@@ -118,6 +108,16 @@ pub fn begin<V: CalendarView>(task: &Task, view: &mut V, arena: &mut Arena) -> R
         return Ok(());
     };
     if request.depart < interval.from {
+        return Ok(());
+    }
+    let at = place_of(task.grid, request.start);
+    let Some(left) = way_left(task, &*view, arena, request.start, at)? else {
+        return Ok(());
+    };
+    let Some(room) = task.horizon.checked_sub(request.depart) else {
+        return Ok(());
+    };
+    if left > room {
         return Ok(());
     }
     begin_in(task, &*view, arena, interval, left, place as u32)?;

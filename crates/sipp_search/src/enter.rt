@@ -482,6 +482,7 @@ fn enter_each<V: CalendarView>(
     arrival: u32,
     to: Cell,
     left: u32,
+    guess: usize,
 ) -> Result<(), Memory>
     requires ready { IsReady task.now.grid.now task.now.request task.now.horizon (V.size view.now) }
     requires sound { IsSound task.now.grid.now task.now.request task.now.horizon (V.known view.now) (V.size view.now) arena.old }
@@ -501,7 +502,7 @@ fn enter_each<V: CalendarView>(
         → IsUnderWay task.now.grid.now task.now.request task.now.horizon a arena.new.states.items arena.old.queue.floor x
         × HasLed task.now.grid.now task.now.request task.now.horizon a arena.new.states.items from arrival to) }
 {
-    let first = begun_by(view.calendar(to), from.place as usize, arrival + 1);
+    let first = begun_by(view.calendar(to), guess, arrival + 1);
     enter_later(task, view, arena, from, arrival, to, left, first)?;
     Ok(())
 }
@@ -516,6 +517,7 @@ pub fn move_into<V: CalendarView>(
     arrival: u32,
     to: Cell,
     left: u32,
+    guess: usize,
 ) -> Result<(), Memory>
     requires ready { IsReady task.now.grid.now task.now.request task.now.horizon (V.size view.now) }
     requires sound { IsSound task.now.grid.now task.now.request task.now.horizon (V.known view.now) (V.size view.now) arena.old }
@@ -536,7 +538,7 @@ pub fn move_into<V: CalendarView>(
         × HasLed task.now.grid.now task.now.request task.now.horizon a arena.new.states.items from arrival to) }
 {
     let Some(id) = place_at(&*arena, to, arrival + 1) else {
-        return enter_each(task, view, arena, from, arrival, to, left);
+        return enter_each(task, view, arena, from, arrival, to, left, guess);
     };
     let there = view.calendar(to);
     let _in_order = there.records();

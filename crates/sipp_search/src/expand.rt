@@ -100,9 +100,9 @@ fn move_to<V: CalendarView>(
     if newest == 0 {
         return move_first(task, view, arena, from, arrival, place, side, to);
     }
-    let left = arena.states[newest - 1].spot.left;
+    let known = arena.states[newest - 1].spot;
     view.load(to)?;
-    move_into(task, &*view, arena, from, arrival, to, left)?;
+    move_into(task, &*view, arena, from, arrival, to, known.left, known.place as usize)?;
     Ok(())
 }
 

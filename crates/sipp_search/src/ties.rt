@@ -389,11 +389,11 @@ fn ask<V: CalendarView>(
     if told == 2 * time + 2 {
         return Ok(Told::Since(Hop { cell, time }));
     }
-    let taken = is_taken(task, view, &*arena, &*ties, cell, time)?;
-    if taken {
+    if is_too_far(task, ties, cell, time)? {
         return Ok(Told::Never);
     }
-    if is_too_far(task, ties, cell, time)? {
+    let taken = is_taken(task, view, &*arena, &*ties, cell, time)?;
+    if taken {
         return Ok(Told::Never);
     }
     if depth == 0 {

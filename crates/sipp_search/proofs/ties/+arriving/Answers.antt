@@ -100,11 +100,11 @@ ask-returns-then-taken-clause-told g t c =
 
 pub ask-returns-then-branch-clause-ties : goal.ask-returns-then-branch-clause-ties
 ask-returns-then-branch-clause-ties g t c =
-    c.in_ok-is_too_far.ensures.ties (g.V.CalendarView.known c.is_taken.new.view) c.in_ok-taken.ensures.ties
+    c.in_ok-is_too_far.ensures.ties (g.V.CalendarView.known c.args.view.now) c.requires.ties
 
-pub ask-returns-then-depth-eq0-clause-ties : goal.ask-returns-then-depth-eq0-clause-ties
-ask-returns-then-depth-eq0-clause-ties g t c =
-    c.in_ok-is_too_far.ensures.ties (g.V.CalendarView.known c.is_taken.new.view) c.in_ok-taken.ensures.ties
+pub ask-is_taken-requires-clause-ties : goal.ask-is_taken-requires-clause-ties
+ask-is_taken-requires-clause-ties g t c =
+    c.in_ok-is_too_far.ensures.ties (g.V.CalendarView.known c.args.view.now) c.requires.ties
 
 pub ask-step_back-requires : goal.ask-step_back-requires
 ask-step_back-requires g t c κs within = (
@@ -116,7 +116,7 @@ ask-step_back-requires g t c κs within = (
       (
         c.in_ok-taken.ensures.paused,
         (
-          c.in_ok-is_too_far.ensures.ties (g.V.CalendarView.known c.is_taken.new.view) c.in_ok-taken.ensures.ties,
+          c.in_ok-taken.ensures.ties,
           (
             waiting_kept c.args.task.now.grid.now c.args.arena.now.states.items c.args.arena.now.queue.floor c.args.ties.now c.is_too_far.new.ties c.requires.waiting c.in_ok-is_too_far.ensures.waiting c.in_ok-is_too_far.ensures.few,
             (
