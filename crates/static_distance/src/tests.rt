@@ -118,6 +118,19 @@ fn tells_a_cell_beside(rt: HostRuntime) {
     assert_eq!(rt; moves, Some(5));
 }
 
+// The places on a map that is a power of two wide are found in another way than those on other maps.
+#[test]
+fn places_on_maps_of_both_kinds_of_width(rt: HostRuntime) {
+    let four = shut_in(rt.alloc()).expect(&rt, "memory");
+    let three = wall(rt.alloc()).expect(&rt, "memory");
+    for number in 0..9 {
+        let place = place_of(&four, Cell(number));
+        assert_eq!(rt; (place.column, place.row), (number % 4, number / 4));
+        let place = place_of(&three, Cell(number));
+        assert_eq!(rt; (place.column, place.row), (number % 3, number / 3));
+    }
+}
+
 // Whether along a path from a cell the distances to a goal are the same told for each cell beside the one before and told alone.
 // They are counted toward a third cell for the first.
 fn are_same_along(
