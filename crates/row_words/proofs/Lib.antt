@@ -1,4 +1,5 @@
 pub mod WordLemmas
 pub mod ShiftLemmas
 pub mod CellLemmas
+pub mod GatherLemmas
 pub mod FlowLemmas

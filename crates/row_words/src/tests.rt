@@ -34,6 +34,18 @@ fn places_of_cells(rt: HostRuntime) {
     assert_eq!(rt; open_places(&cells), 0b10_0010_0001_1000_0101);
 }
 
+// Each pattern of eight cells has its own number, with the first cell as the lowest bit.
+#[test]
+fn places_of_each_eight_cells(rt: HostRuntime) {
+    for pattern in 0..256_u64 {
+        let mut cells = [false; 8];
+        for place in 0..8 {
+            cells[place] = pattern >> place & 1 == 1;
+        }
+        assert_eq!(rt; open_places(&cells), pattern);
+    }
+}
+
 #[test]
 fn lowest_place(rt: HostRuntime) {
     assert_eq!(rt; lowest(0b0110_1000), Some(3));

@@ -1,8 +1,8 @@
-use Rattle.std.proofs.Common.{◌+◌, false, get_or, arith}
+use Rattle.std.proofs.Common.{false, get_or, zero-add}
 use Rattle.std.proofs.lemmas.Option.{slice_get-get_or}
 use Rattle.row_words.proofs.CellLemmas.{one_open}
 use Rattle.row_words.proofs.places.open_cell.Goals as goal
 
 pub returns : goal.returns
-returns c = one_open c.args.cells.now c.args.from c.args.place (get_or c.args.cells.now (c.args.from + c.args.place) false)
-    (slice_get-get_or c.args.cells.now (c.args.from + c.args.place) false (omega arith)) c.requires.small
+returns c = one_open c.args.cells.now 0 c.args.place (get_or c.args.cells.now c.args.place false)
+    (rw (zero-add c.args.place) (slice_get-get_or c.args.cells.now c.args.place false c.requires.within)) c.requires.small
