@@ -102,7 +102,16 @@ fn move_to<V: CalendarView>(
     }
     let known = arena.states[newest - 1].spot;
     view.load(to)?;
-    move_into(task, &*view, arena, from, arrival, to, known.left, known.place as usize)?;
+    move_into(
+        task,
+        &*view,
+        arena,
+        from,
+        arrival,
+        to,
+        known.left,
+        known.place as usize,
+    )?;
     Ok(())
 }
 
