@@ -3,8 +3,8 @@
 // They are tests, in a crate of their own above all others, so that no large crate is proved twice for its tests.
 // `calling` runs the top call in memory, with threads and a gate; `workers` has the rows of several workers, `pool`
 // runs workers over a shared book without the program, and `tail` finishes what they left; `layers` is a yardstick of the
-// search, from the definitions alone, and `searches` compares the two; `distances` asks whether a cell is near enough;
-// each other module is a group of rows.
+// search, from the definitions alone, and `searches` compares the two; `distances` compares static distances with those of a
+// full breadth-first search, and asks whether a cell is near enough; each other module is a group of rows.
 #![tactic(auto)]
 
 mod calling;
